@@ -1,0 +1,5 @@
+pub mod Memory
+pub mod Tables
+pub mod Calls
+pub mod Numbers
+pub mod Maps
