@@ -1,0 +1,2 @@
+mod CasesHold
+mod LawsHold

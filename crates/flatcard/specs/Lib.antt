@@ -1,0 +1,7 @@
+pub mod Card
+pub mod Striping
+pub mod Verbs
+pub mod Calls
+pub mod Layout
+pub mod Cases
+pub mod Laws
