@@ -1,2 +1,4 @@
 mod CasesHold
 mod LawsHold
+pub mod Counting
+pub mod NewCard

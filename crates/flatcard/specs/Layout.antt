@@ -70,11 +70,13 @@ Whole m w depth k g = (d : ℕ) → d < w → length (block m w k g d .pages) �
 abbrev pub Laid : Memory → ℕ → ℕ → ℕ → Zone → Type 0
 Laid m w k g v = (d : ℕ) → d < w → block m w k g d .pages ≡ dealt w (v .sector) (v .pointer / 4) d
 
+-- the sector at an offset of zone z, as the group g has it
+abbrev pub sector-in : Memory → Geometry → ℕ → ℕ → ℕ → List ℕ
+sector-in m geometry z g s = let p : Place = place geometry z s in quarter-of (getD (m .at (p .bank) g .pages) (p .page) []) (p .quarter)
+
 -- from the pointer on, the group has the zone's bytes
 abbrev pub Ahead : Memory → Geometry → ℕ → ℕ → Zone → Type 0
-Ahead m geometry z g v = (s : ℕ) → v .pointer ≤ s → s < capacity geometry →
-    let p : Place = place geometry z s in
-    quarter-of (getD (m .at (p .bank) g .pages) (p .page) []) (p .quarter) ≡ v .sector s
+Ahead m geometry z g v = (s : ℕ) → v .pointer ≤ s → s < capacity geometry → sector-in m geometry z g s ≡ v .sector s
 
 -- ---- the two things that calls do to a flash
 -- the blocks of a group changed, each by its bank in the group

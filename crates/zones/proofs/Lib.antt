@@ -1,0 +1,4 @@
+mod Bounded
+mod NoZones
+mod Forming
+mod Reporting

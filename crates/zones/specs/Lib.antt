@@ -1,0 +1,9 @@
+pub mod Numbers
+pub mod Phases
+pub mod Geometries
+pub mod Defaults
+pub mod View
+pub mod Intact
+pub mod Formed
+pub mod Blank
+pub mod Lines
