@@ -62,7 +62,7 @@ formed-stays s c (resets a) = ruled-stays (first (reset-checks c a)) c (reset-ca
 formed-stays s c (compacts source target offsets) =
     ruled-stays (first (compact-checks c source target offsets)) c (compact-card c source target offsets)
     (ap Some (given-stays (with-zone (gather c source target offsets) source _) _ _))
-formed-stays s c (threads z map) = ruled-stays (first (thread-checks c z map)) c (thread-card c z map) 
+formed-stays s c (threads z map) = ruled-stays (first (thread-checks c z map)) c (thread-card c z map)
     (let marks = marks-of (capacity (c .geometry)) map in
     ap Some (settled-stays (taken c (chip (c .geometry) z)) z (threaded (front (c .row (chip (c .geometry) z))) (current (c .zone z .phase)) marks) (swept marks (capacity (c .geometry)) 0) (c .zone z .sector)))
 formed-stays s c (reports z list) = refl

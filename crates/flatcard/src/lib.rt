@@ -7,11 +7,9 @@ ghost use Rattle.flatcard.specs.Laws.{Laws};
 // The worked cases hold of the definitions that the contracts of the card cite.
 pub fn worked_cases_hold()
     ensures { λ _. ⌜ Worked-cases ⌝ }
-{
-}
+{}
 
 // The laws of the flat card hold, for every card and every call.
 pub fn laws_hold()
     ensures { λ _. ⌜ Laws ⌝ }
-{
-}
+{}

@@ -52,7 +52,8 @@ module _ (m : Memory) (b : Book) (g : Geometry) (begun : Begun b g) where
       (λ i. let v = none-at z i in record {
         phase = zone-phase b (geometry-of g) v;
         pointer = v .pointer;
-        sector = sector-of m (geometry-of g) z (zone-phase b (geometry-of g) v) (v .pointer) (in-slot (b .pages) (v .slot)) })
+        sector = sector-of m (geometry-of g) z (zone-phase b (geometry-of g) v) (v .pointer) (in-slot (b .pages) (v .slot));
+      })
       ∙ (λ i. record { phase = flat.empty; pointer = 0; sector = λ s. blank-at z s i })
 
   -- ---- rows

@@ -14,7 +14,7 @@ pub enum Phase {
 
 impl Phase {
     // The state that a report shows.
-    pub fn state(self) -> State
+    pub(crate) fn state(self) -> State
         ensures { λ r. ⌜ r ≡ phase-state self ⌝ }
     {
         match self {

@@ -36,7 +36,7 @@ fn rising(length: usize) -> [usize; 64]
 
 impl Book {
     // The book of a card that is not formed.
-    pub fn new() -> Book
+    pub(crate) fn new() -> Book
         ensures { λ r. ⌜ r .geometry ≡ None ⌝ }
     {
         Book {
@@ -50,7 +50,7 @@ impl Book {
     }
 
     // Makes the book that of a card just formed: every zone empty, every block group free.
-    pub fn form(&mut self, geometry: Geometry)
+    pub(crate) fn form(&mut self, geometry: Geometry)
         ensures { λ _. ⌜ Begun (now (self .exit)) geometry ⌝ }
     {
         self.geometry = Some(geometry);
@@ -63,7 +63,7 @@ impl Book {
     }
 
     // A zone as a report shows it.
-    pub fn line(&self, geometry: Geometry, zone: usize) -> ZoneReport
+    pub(crate) fn line(&self, geometry: Geometry, zone: usize) -> ZoneReport
         requires { ⌜ zone < zones (geometry-of geometry) ⌝ }
         ensures state { λ r. ⌜ r .state ≡ phase-state (zone-at (now (self .entry)) zone .phase) ⌝ }
         ensures start { λ r. ⌜ r .start ≡ start (geometry-of geometry) zone ⌝ }

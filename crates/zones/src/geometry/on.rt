@@ -18,7 +18,7 @@ fn is_width(width: usize) -> bool
 
 impl Geometry {
     // The numbers of a card on a flash of that shape, or none where they do not fit it.
-    pub fn on(shape: Shape, limit: usize, width: usize) -> Option<Geometry>
+    pub(crate) fn on(shape: Shape, limit: usize, width: usize) -> Option<Geometry>
         requires { ⌜ shape .banks ≤ 16 ⌝ ∗ ⌜ shape .blocks ≤ 64 ⌝ ∗ ⌜ shape .pages ≤ 64 ⌝ }
         ensures { λ r. ⌜ Cases r (unfit shape limit width ≡ true) (λ g. Fitting shape limit width g) ⌝ }
     {
@@ -42,7 +42,7 @@ impl Geometry {
     }
 
     // The sectors of a zone.
-    pub fn capacity(self) -> usize
+    pub(crate) fn capacity(self) -> usize
         ensures answer { λ r. ⌜ r ≡ capacity (geometry-of self) ⌝ }
         ensures bound { λ r. ⌜ r ≤ 4096 ⌝ }
     {
@@ -50,7 +50,7 @@ impl Geometry {
     }
 
     // How many zones the card has.
-    pub fn zones(self) -> usize
+    pub(crate) fn zones(self) -> usize
         ensures answer { λ r. ⌜ r ≡ zones (geometry-of self) ⌝ }
         ensures bound { λ r. ⌜ r ≤ 64 ⌝ }
     {

@@ -9,7 +9,7 @@ returns g c =
     let s = c .args .self .now in
     let m = g .F·Flash .memory (s .flash) in
     let none = none-of (s .book .geometry) (search needs) in
-    let blank = sym (c .if-flash-printed .ensures tt) in
+    let blank = sym (c .if-printed .ensures tt) in
     let seen = c .shape-shape .ensures in
     let fit = c .in-Some .ensures tt in
     record {

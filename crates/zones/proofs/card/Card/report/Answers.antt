@@ -27,12 +27,13 @@ pub loop-i-again : need.loop-i-again
 loop-i-again g c =
     let s = c .args .self .now in
     let l = c .loop-i .list in
-    let i = c .loop-i .i in
-    (length-set l i (c .line .result) ∙ c .loop-i .inv .0,
-    below-more _ _
-    (λ k h. ap line-of (getD-set-other l i k (c .line .result) no-line (λ e. omega arith)) ∙ c .loop-i .inv .1 k h)
-    (ap line-of (getD-set-same l i (c .line .result) no-line (omega (arith, c .loop-i .inv .0)))
-    ∙ line-is (g .F·Flash .memory (s .flash)) (s .book) (c .in-Some .geometry) _ (c .line .result) (c .line .ensures .state) (c .line .ensures .start) (c .line .ensures .pointer)))
+    let i = c .loop-i .i in (
+      length-set l i (c .line .result) ∙ c .loop-i .inv .0,
+      below-more _ _
+          (λ k h. ap line-of (getD-set-other l i k (c .line .result) no-line (λ e. omega arith)) ∙ c .loop-i .inv .1 k h)
+          (ap line-of (getD-set-same l i (c .line .result) no-line (omega (arith, c .loop-i .inv .0)))
+          ∙ line-is (g .F·Flash .memory (s .flash)) (s .book) (c .in-Some .geometry) _ (c .line .result) (c .line .ensures .state) (c .line .ensures .start) (c .line .ensures .pointer)),
+    )
 
 pub returns : need.returns
 returns g c =

@@ -4,7 +4,7 @@ use borrow.Author.Needs.{needs}
 use Rattle.flatcard.specs.Verbs.{any}
 use Rattle.flatcard.proofs.Counting.{any-here, any-more}
 use Rattle.zones.specs.Blank.{stands}
-use Rattle.zones.proofs.card.calls.bank_printed.Needs as need
+use Rattle.zones.proofs.blank.bank_printed.Needs as need
 
 pub loop-block-holds : need.loop-block-holds
 loop-block-holds g c = refl

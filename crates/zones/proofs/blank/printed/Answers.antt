@@ -6,7 +6,7 @@ use borrow.Author.Needs.{needs}
 use Rattle.flatcard.specs.Verbs.{any}
 use Rattle.flatcard.proofs.Counting.{any-here, any-more}
 use Rattle.zones.specs.Blank.{stands}
-use Rattle.zones.proofs.card.calls.flash_printed.Needs as need
+use Rattle.zones.proofs.blank.printed.Needs as need
 
 pub loop-bank-holds : need.loop-bank-holds
 loop-bank-holds g c = refl
