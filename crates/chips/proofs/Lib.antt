@@ -1,0 +1,4 @@
+mod Blocks
+mod Calls
+mod Counts
+mod Pages
