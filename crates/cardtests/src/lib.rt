@@ -116,7 +116,10 @@ mod tests {
     #[test]
     fn refuses_standing_pages() -> Result<(), Fail> {
         check_eq(formed((2, 5, 10), 1, 2, 2), Some(Err(CardRefusal::Printed)))?;
-        check_eq(formed((16, 4, 64), 1, 1, 1), Some(Err(CardRefusal::Printed)))?;
+        check_eq(
+            formed((16, 4, 64), 1, 1, 1),
+            Some(Err(CardRefusal::Printed)),
+        )?;
         check_eq(formed((2, 5, 10), 1, 5, 2), Some(Err(CardRefusal::Shape)))
     }
 
@@ -144,6 +147,9 @@ mod tests {
         check_eq(card.report(2, &mut list[0..2]), Ok(()))?;
         check_eq(list, [empty_at(32), empty_at(48), UNTOUCHED, UNTOUCHED])?;
         check_eq(card.report(0, &mut list), Ok(()))?;
-        check_eq(list, [empty_at(0), empty_at(16), empty_at(32), empty_at(48)])
+        check_eq(
+            list,
+            [empty_at(0), empty_at(16), empty_at(32), empty_at(48)],
+        )
     }
 }

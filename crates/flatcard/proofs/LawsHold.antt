@@ -1,20 +1,19 @@
 -- The laws of the flat card.
 use mathlib.Core.Path.{_≡_, refl, sym, _∙_, ap}
 use mathlib.Core.Logic.{_⊎_, inl, inr, ⊎-elim}
-use mathlib.Core.Bool.{Bool, true, false, cond}
+use mathlib.Core.Bool.{Bool, true, false}
 use mathlib.Core.List.{List}
 use Prim.Native.Nat.{ℕ, zero, suc, _+_, _*_, _/_, _%_, _<_, _≤_}
 use native.Mathlib.Nat.{mod-lt, div-add-mod', add-zero}
 use native.Mathlib.Omega.{arith}
 use lib.Dec.{eqb}
-use Rattle.std.specs.declared.option.Option.{Option}
-use Rattle.std.specs.declared.option.Option.the-variants.{Some, None}
-use Rattle.std.proofs.shelf.Tests.{cases-bool, cases-eq, cond-both, cond-true, cond-false}
+use Rattle.std.specs.declared.option.Option.the-variants.{Some}
+use Rattle.std.proofs.shelf.Tests.{cases-eq, cond-both}
 use Rattle.flash.specs.Tables.{first}
-use Rattle.flatcard.specs.Card.{Geometry, capacity, chip, zone-of, Flat, unformed, formed, Answer, refused, done, number, Phase, empty, opened, full, threaded, Card, Survey}
+use Rattle.flatcard.specs.Card.{Geometry, capacity, chip, zone-of, Flat, unformed, formed, Answer, refused, number, Phase, empty, opened, full, threaded, Card, Survey}
 use Rattle.flatcard.specs.Striping.{place, first-bank}
 use Rattle.flatcard.specs.Verbs.{is-empty, current, with-zone, front, taken, given-back, swept, marks-of, settled}
-use Rattle.flatcard.specs.Calls.{Call, forms, writes, reads, resets, compacts, threads, reports, called, ruled, form-checks, form-card, write-checks, write-card, opening, reset-checks, reset-card, reset-zone, compact-checks, compact-card, gather, thread-checks, thread-card}
+use Rattle.flatcard.specs.Calls.{Call, forms, writes, reads, resets, compacts, threads, reports, called, ruled, form-checks, form-card, write-checks, write-card, opening, reset-checks, reset-card, compact-checks, compact-card, gather, thread-checks, thread-card}
 use Rattle.flatcard.specs.Laws.{Laws, geometry-of}
 
 -- a call that answers a refusal's number is not the accepted one

@@ -1,12 +1,11 @@
 -- The worked cases: what the definitions come to on a small card, on one byte and on one bad block.
 use mathlib.Core.Path.{_≡_}
 use mathlib.Core.List.{List, [], _∷_}
-use mathlib.Core.Bool.{Bool, true, false}
 use Prim.Native.Nat.{ℕ, _*_}
 use lib.ListN.{replicate}
 use Rattle.flash.specs.Maps.{whitened-byte, replaced-block}
-use Rattle.flatcard.specs.Card.{Geometry, Flat, unformed, formed, Answer, refused, done, Survey, Line}
-use Rattle.flatcard.specs.Striping.{Place, place}
+use Rattle.flatcard.specs.Card.{Geometry, Flat, unformed, refused, done, Survey, Line}
+use Rattle.flatcard.specs.Striping.{place}
 use Rattle.flatcard.specs.Calls.{form, write, reset, thread, report}
 
 -- ---- the cards that the cases speak of

@@ -1,10 +1,10 @@
 -- The small steps that the calls of the flat card are made of.
 use mathlib.Core.List.{List, [], _∷_, _++_}
-use mathlib.Core.Bool.{Bool, true, false, cond, _&&_, _||_, not}
+use mathlib.Core.Bool.{Bool, false, cond, _&&_, _||_}
 use Prim.Native.Nat.{ℕ, zero, suc, _+_, _-_, _*_, _/_, _%_, _^_, min}
 use lib.Dec.{eqb, ltb, leb}
 use lib.ListN.{length, getD, take, drop}
-use Rattle.flatcard.specs.Card.{Geometry, capacity, zones, chip, Phase, empty, opened, full, threaded, Zone, Card, blank, Survey}
+use Rattle.flatcard.specs.Card.{capacity, zones, chip, Phase, empty, opened, full, threaded, Zone, Card, blank, Survey}
 
 -- ---- functions of a number
 -- some number below n passes

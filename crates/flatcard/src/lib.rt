@@ -1,6 +1,5 @@
 // The model of the card: the flat card and its seven calls are definitions in specs/, without code.
 // The functions here carry what is proved of those definitions.
-ghost use mathlib.Core.Path.{_≡_};
 ghost use Rattle.flatcard.specs.Cases.{Worked-cases};
 ghost use Rattle.flatcard.specs.Laws.{Laws};
 

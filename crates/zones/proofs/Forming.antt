@@ -1,23 +1,23 @@
 -- The book of a card just formed makes the new flat card, and the card is intact.
 use mathlib.Core.Path.{_≡_, refl, sym, _∙_, ap, subst}
-use mathlib.Core.Bool.{Bool, true, false, cond}
-use mathlib.Core.List.{List, [], _++_}
+use mathlib.Core.Bool.{false, cond}
+use mathlib.Core.List.{List, []}
 use Prim.Native.Nat.{ℕ, _+_, _*_, _/_, _%_, _<_, _≤_}
 use native.Mathlib.Nat.{add-mul, mul-le-mul-right, div-add-mod'}
 use native.Mathlib.Omega.{arith}
-use lib.Dec.{eqb, ltb}
-use lib.ListN.{length, getD, take, drop, replicate}
+use lib.Dec.{ltb}
+use lib.ListN.{length, getD, take, drop}
 use Rattle.std.specs.Options.{isSome}
 use Rattle.std.specs.declared.option.Option.{Option}
 use Rattle.std.specs.declared.option.Option.the-variants.{Some, None}
-use Rattle.std.proofs.shelf.Bits.{mod-mul-add, mul-add-lt}
+use Rattle.std.proofs.shelf.Bits.{mod-mul-add}
 use Rattle.std.proofs.shelf.Lists.{ext-getD, getD-take, getD-drop, getD-replicate, length-take, length-drop, take-at}
 use Rattle.std.proofs.shelf.Tests.{cond-both, cond-true, cond-false, false≢true, ltb-true}
 use Rattle.std.proofs.shelf.Ways.{tells}
 use Rattle.flash.specs.declared.Shape.{Shape}
 use Rattle.flash.specs.Memory.{Memory, shape-of}
 use Rattle.flash.specs.Tables.{first}
-use Rattle.flatcard.specs.Card.{capacity, zones, Flat, unformed, formed, Answer, done, blank, survey}
+use Rattle.flatcard.specs.Card.{zones, formed, done, blank, survey}
 use Rattle.flatcard.specs.Card as flat
 use Rattle.flatcard.specs.Calls.{bad-shape, empty-zone, form, form-card, form-checks, geometry-on, new-card}
 use Rattle.flatcard.specs.Layout.{Laid-out}
@@ -26,13 +26,12 @@ use Rattle.flash.proofs.Calls.{not-refused}
 use Rattle.flatcard.proofs.Counting.{length-range, getD-range}
 use Rattle.flatcard.proofs.NewCard.{new-laid-out}
 use Rattle.zones.specs.declared.book.Book.{Book}
-use Rattle.zones.specs.declared.book.Row.{Row}
 use Rattle.zones.specs.declared.geometry.Geometry.{Geometry}
 use Rattle.zones.specs.Defaults.{no-zone}
 use Rattle.zones.specs.Formed.{Begun}
 use Rattle.zones.specs.Geometries.{Fitting, geometry-of, unfit}
 use Rattle.zones.specs.Intact.{Intact-book, Intact-formed}
-use Rattle.zones.specs.View.{ahead, card-of, elements, flat-of, in-slot, row-of, sector-of, zone-at, zone-of, zone-phase}
+use Rattle.zones.specs.View.{card-of, elements, flat-of, in-slot, row-of, sector-of, zone-at, zone-of, zone-phase}
 use Rattle.zones.proofs.NoZones.{no-zones}
 
 -- a stretch of a row that is full from its start on

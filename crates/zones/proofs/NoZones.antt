@@ -1,7 +1,7 @@
 -- A table of zones of which none is used.
 use mathlib.Core.Path.{_≡_, ap}
 use mathlib.Core.Logic.{⊎-elim}
-use Prim.Native.Nat.{ℕ, _≤_}
+use Prim.Native.Nat.{ℕ}
 use native.Mathlib.Omega.{arith}
 use lib.ListN.{getD, replicate}
 use Rattle.std.proofs.shelf.Lists.{getD-replicate, getD-past, length-replicate}

@@ -1,6 +1,6 @@
 -- The card's geometry as the flat card has it.
 use mathlib.Core.Path.{_≡_}
-use mathlib.Core.Bool.{Bool, true, false}
+use mathlib.Core.Bool.{Bool, false}
 use Prim.Native.Nat.{ℕ}
 use Rattle.flash.specs.declared.Shape.{Shape}
 use Rattle.flatcard.specs.Card as flat

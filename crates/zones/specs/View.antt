@@ -1,6 +1,6 @@
 -- How a book and a flash make a flat card.
 use mathlib.Core.List.{List, [], _++_}
-use mathlib.Core.Bool.{Bool, cond}
+use mathlib.Core.Bool.{cond}
 use Prim.Native.Nat.{ℕ, _*_, _/_, _%_}
 use lib.Dec.{ltb}
 use lib.ListN.{getD, take, drop}
@@ -8,7 +8,7 @@ use Rattle.std.specs.declared.option.Option.{Option}
 use Rattle.std.specs.declared.option.Option.the-variants.{Some, None}
 use Rattle.flash.specs.Memory.{Memory}
 use Rattle.flash.specs.Calls.{quarter-of}
-use Rattle.flatcard.specs.Card.{capacity, Flat, unformed, formed, blank}
+use Rattle.flatcard.specs.Card.{capacity, Flat, unformed, formed, blank, Survey, survey}
 use Rattle.flatcard.specs.Card as flat
 use Rattle.flatcard.specs.Layout.{sector-in}
 use Rattle.flatcard.specs.Verbs.{current, least-lives, marks-of}
@@ -78,9 +78,9 @@ abbrev pub flat-of : Memory → Book → Option Geometry → Flat
 flat-of m b None = unformed
 flat-of m b (Some g) = formed (card-of m b g)
 
--- what the flash of a card means, and its flat card, given what any flash of that kind means
-abbrev pub memory-under : {F : Type 0} → (F → Memory) → Card F → Memory
-memory-under memory c = memory (c .flash)
-
+-- given what a flash of any value means: the flat card of a card, and the survey of its flash
 abbrev pub flat-card : {F : Type 0} → (F → Memory) → Card F → Flat
 flat-card memory c = flat-of (memory (c .flash)) (c .book) (c .book .geometry)
+
+abbrev pub surveyed : {F : Type 0} → (F → Memory) → Card F → Survey
+surveyed memory c = survey (memory (c .flash))

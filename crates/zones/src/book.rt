@@ -1,6 +1,4 @@
 // What the card keeps beside its flash.
-ghost use Prim.Native.Nat.{ℕ, _≤_};
-ghost use lib.ListN.{getD};
 ghost use Rattle.zones.specs.Defaults.{Pointers};
 use crate::geometry::Geometry;
 use crate::zone::Zone;

@@ -4,10 +4,10 @@ ghost use mathlib.Core.Bool.{false};
 ghost use mathlib.Core.List.{map};
 ghost use Rattle.std.specs.Results.{isOk};
 ghost use Rattle.flatcard.specs.Calls.{form, report};
-ghost use Rattle.flatcard.specs.Card.{unformed, survey};
+ghost use Rattle.flatcard.specs.Card.{unformed};
 ghost use Rattle.zones.specs.Intact.{Intact};
 ghost use Rattle.zones.specs.Numbers.{answer-of, line-of, number-of};
-ghost use Rattle.zones.specs.View.{flat-card, memory-under};
+ghost use Rattle.zones.specs.View.{flat-card, surveyed};
 use super::Card;
 use crate::blank::printed;
 use crate::book::Book;
@@ -32,8 +32,8 @@ impl<F: Flash> Card<F> {
 
     // Forms the card: at most `limit` zones open or threaded together, each striped over `width` banks.
     pub fn form(&mut self, limit: usize, width: usize) -> Result<Done, CardRefusal>
-        ensures answer { λ r. ⌜ answer-of r ≡ form (flat-card (F·Flash .memory) (now (self .entry))) limit width (survey (memory-under (F·Flash .memory) (now (self .entry)))) .0 ⌝ }
-        ensures flat { λ r. ⌜ flat-card (F·Flash .memory) (now (self .exit)) ≡ form (flat-card (F·Flash .memory) (now (self .entry))) limit width (survey (memory-under (F·Flash .memory) (now (self .entry)))) .1 ⌝ }
+        ensures answer { λ r. ⌜ answer-of r ≡ form (flat-card (F·Flash .memory) (now (self .entry))) limit width (surveyed (F·Flash .memory) (now (self .entry))) .0 ⌝ }
+        ensures flat { λ r. ⌜ flat-card (F·Flash .memory) (now (self .exit)) ≡ form (flat-card (F·Flash .memory) (now (self .entry))) limit width (surveyed (F·Flash .memory) (now (self .entry))) .1 ⌝ }
         ensures flash { λ r. ⌜ now (self .exit) .flash ≡ now (self .entry) .flash ⌝ }
         ensures refused { λ r. ⌜ (isOk r ≡ false → now (self .exit) ≡ now (self .entry)) ⌝ }
         ensures intact { λ r. ⌜ (Intact (F·Flash .memory) (now (self .entry)) → Intact (F·Flash .memory) (now (self .exit))) ⌝ }

@@ -1,7 +1,7 @@
 // How zones are laid on a flash.
 ghost use mathlib.Core.Path.{_≡_};
-ghost use mathlib.Core.Bool.{true, false};
-ghost use Prim.Native.Nat.{_≤_, _<_};
+ghost use mathlib.Core.Bool.{true};
+ghost use Prim.Native.Nat.{_≤_};
 ghost use Rattle.std.specs.Options.{Cases};
 ghost use Rattle.flatcard.specs.Calls.{is-width};
 ghost use Rattle.flatcard.specs.Card.{capacity, zones};

@@ -1,7 +1,5 @@
-use mathlib.Core.Path.{refl, sym, _∙_, ap}
-use native.Mathlib.Omega.{arith}
+use mathlib.Core.Path.{refl, sym}
 use borrow.Author.Needs.{needs}
-use Rattle.flatcard.specs.Verbs.{any}
 use Rattle.flatcard.proofs.Counting.{any-here, any-more}
 use Rattle.zones.specs.Blank.{stands}
 use Rattle.zones.proofs.blank.bank_printed.Needs as need

@@ -1,4 +1,4 @@
-use mathlib.Core.Path.{refl, sym, _∙_}
+use mathlib.Core.Path.{refl, sym}
 use borrow.Author.Needs.{needs}
 use Rattle.std.proofs.shelf.Tests.{false≢true}
 use Rattle.zones.proofs.Forming.{form-answer, form-flat, form-intact, none-of}
