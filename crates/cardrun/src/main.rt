@@ -3,7 +3,7 @@ use chips::bare::BareChip;
 use chips::bare::BareChipFlash;
 use chips::record::BlockRecord;
 use flash::Shape;
-use session::run::answer;
+use session::answer;
 use std::io;
 use std::io::BufRead;
 use std::io::BufReader;

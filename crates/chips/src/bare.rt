@@ -66,7 +66,7 @@ fn counts_fit(pages: usize, records: &[BlockRecord]) -> bool
 }
 
 impl<'a> BareChip<'a> {
-    // A chip over these bytes and records, as they stand. It shows no banks where they do not fit the shape,
+    // A chip over these bytes and records as they are. It shows no banks where they do not fit the shape,
     // or where a record counts more standing pages than a block has.
     pub fn new(shape: Shape, bytes: &'a mut [u8], records: &'a mut [BlockRecord]) -> Self
         ensures { λ r. ⌜ memory-of r ≡ new-memory (made-of shape (now (bytes .entry)) (now (records .entry))) ⌝ }
@@ -118,7 +118,7 @@ pub impl<'a> Flash for BareChip<'a> as BareChipFlash {
         }
     }
 
-    // `new` lets no record through that counts more than the pages of a block, so the least of the two is the count.
+    // `new` lets no record through that counts more pages than a block has: on what it made, `min` changes nothing.
     fn standing(&self, bank: usize, block: usize) -> Option<usize> {
         match self.number_of(bank, block) {
             Some(i) => Some(self.records[i].standing_pages().min(self.shape.pages)),

@@ -1,3 +1,4 @@
 mod Caps
 mod Letters
 mod Splits
+mod Texts
