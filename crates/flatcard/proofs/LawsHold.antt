@@ -15,6 +15,7 @@ use Rattle.flatcard.specs.Striping.{place, first-bank}
 use Rattle.flatcard.specs.Verbs.{is-empty, current, with-zone, front, taken, given-back, swept, marks-of, settled}
 use Rattle.flatcard.specs.Calls.{Call, forms, writes, reads, resets, compacts, threads, reports, called, ruled, form-checks, form-card, write-checks, write-card, opening, reset-checks, reset-card, compact-checks, compact-card, gather, thread-checks, thread-card}
 use Rattle.flatcard.specs.Laws.{Laws, geometry-of}
+use Rattle.flatcard.proofs.Laying.{found-at-place, gives-back, lays-alone, worn-stays}
 
 -- a call that answers a refusal's number is not the accepted one
 ruled-refused : (n : ℕ) (f : Flat) (r : Answer × Flat) → number (r .0) ≡ 0 → (number (ruled n f r .0) ≡ 0 → ⊥) → ruled n f r .1 ≡ f
@@ -99,4 +100,8 @@ laws = record {
   own-place = own-place;
   sweep-passes = sweep-passes;
   sweep-stops = sweep-stops;
+  found-at-place = found-at-place;
+  lays-alone = lays-alone;
+  gives-back = gives-back;
+  worn-stays = worn-stays;
 }

@@ -89,11 +89,11 @@ with-group m w k g change = record {
 }
 
 -- lay out: the blocks of a zone's current group hold exactly the complete pages below its pointer
+abbrev pub laying : ℕ → Zone → ℕ → Block → Block
+laying w v d x = record { pages = dealt w (v .sector) (v .pointer / 4) d; lives = x .lives }
+
 abbrev pub lay-out : Memory → Card → ℕ → Memory
-lay-out m c z =
-    let w : ℕ = c .geometry .width in
-    let v : Zone = c .zone z in
-    with-group m w (chip (c .geometry) z) (current (v .phase)) (λ d x. record { pages = dealt w (v .sector) (v .pointer / 4) d; lives = x .lives })
+lay-out m c z = with-group m (c .geometry .width) (chip (c .geometry) z) (current (c .zone z .phase)) (laying (c .geometry .width) (c .zone z))
 
 -- give back: each block of a group is erased, or nothing where one of them has no lives
 abbrev pub give-back : Memory → ℕ → ℕ → ℕ → Memory

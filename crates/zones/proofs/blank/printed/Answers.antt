@@ -14,7 +14,7 @@ loop-bank-holds g c = refl
 pub returns-then-bank-printed : need.returns-then-bank-printed
 returns-then-bank-printed g c =
     let m = g .F·Flash .memory (c .args .flash .now) in
-    sym (any-here (c .args .shape .banks) (λ b. any (c .args .shape .blocks) (stands m b)) (c .loop-bank .bank) (c .loop-bank-test .taken) (search needs))
+    sym (any-here (c .args .shape .banks) (λ b. any (c .args .shape .blocks) (stands m b)) (c .loop-bank .bank) (omega arith) (search needs))
     ∙ ap (λ s. any (s .banks) (λ b. any (s .blocks) (stands m b))) (c .pre)
 
 pub loop-bank-again : need.loop-bank-again
