@@ -4,7 +4,8 @@ ghost use mathlib.Core.Path.{_≡_};
 ghost use mathlib.Core.Bool.{false, true};
 ghost use lib.ListN.{length};
 ghost use Rattle.std.specs.Options.{Cases};
-ghost use Rattle.flash.specs.Calls.{erase-number, erased, spot};
+ghost use Rattle.std.specs.Results.{isOk};
+ghost use Rattle.flash.specs.Calls.{erase-number, erased, program-number, programmed, spot};
 ghost use Rattle.flash.specs.Memory.{inside};
 ghost use Rattle.flash.specs.Numbers.{answer};
 ghost use Rattle.chips.specs.Bounded.{bounds-of};
@@ -158,13 +159,18 @@ pub impl<'a> Flash for BareChip<'a> as BareChipFlash {
         Ok(())
     }
 
+    // Where it is refused, it also leaves the bytes of pages that do not stand.
     fn program(
         &mut self,
         bank: usize,
         block: usize,
         page: usize,
         bytes: &[u8],
-    ) -> Result<(), Refusal> {
+    ) -> Result<(), Refusal>
+        ensures answer { λ r. ⌜ answer r ≡ program-number (spot (memory-of (now (self .entry))) bank block) page (now (bytes .entry)) ⌝ }
+        ensures after { λ _. ⌜ memory-of (now (self .exit)) ≡ programmed (memory-of (now (self .entry))) bank block page (now (bytes .entry)) ⌝ }
+        ensures refused { λ r. ⌜ (isOk r ≡ false → parts-of (now (self .exit)) ≡ parts-of (now (self .entry))) ⌝ }
+    {
         let Some(i) = self.number_of(bank, block) else {
             return Err(Refusal::Outside);
         };
@@ -192,6 +198,7 @@ pub impl<'a> Flash for BareChip<'a> as BareChipFlash {
         ensures answer { λ r. ⌜ answer r ≡ erase-number (spot (memory-of (now (self .entry))) bank block) ⌝ }
         ensures after { λ _. ⌜ memory-of (now (self .exit)) ≡ erased (memory-of (now (self .entry))) bank block ⌝ }
         ensures bytes { λ _. ⌜ parts-of (now (self .exit)) .bytes ≡ parts-of (now (self .entry)) .bytes ⌝ }
+        ensures refused { λ r. ⌜ (isOk r ≡ false → parts-of (now (self .exit)) ≡ parts-of (now (self .entry))) ⌝ }
     {
         let Some(i) = self.number_of(bank, block) else {
             return Err(Refusal::Outside);
