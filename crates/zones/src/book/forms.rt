@@ -69,7 +69,7 @@ impl Book {
         ensures pointer { λ r. ⌜ r .pointer ≡ start (geometry-of geometry) zone + zone-at (now (self .entry)) zone .pointer ⌝ }
     {
         let held = self.zones[zone];
-        let start = zone * geometry.capacity();
+        let start = geometry.start(zone);
         ZoneReport {
             state: held.phase.state(),
             start,

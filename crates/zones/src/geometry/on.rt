@@ -1,10 +1,10 @@
 // How zones are laid on a flash.
 ghost use mathlib.Core.Path.{_≡_};
 ghost use mathlib.Core.Bool.{true};
-ghost use Prim.Native.Nat.{_≤_};
+ghost use Prim.Native.Nat.{_*_, _<_, _≤_};
 ghost use Rattle.std.specs.Options.{Cases};
 ghost use Rattle.flatcard.specs.Calls.{is-width};
-ghost use Rattle.flatcard.specs.Card.{capacity, zones};
+ghost use Rattle.flatcard.specs.Card.{capacity, start, zones};
 ghost use Rattle.zones.specs.Geometries.{geometry-of, Fitting, unfit};
 use super::Geometry;
 use flash::Shape;
@@ -55,5 +55,14 @@ impl Geometry {
         ensures bound { λ r. ⌜ r ≤ 64 ⌝ }
     {
         self.chips * (self.blocks - self.limit)
+    }
+
+    // The address of a zone's first sector.
+    pub(crate) fn start(self, zone: usize) -> usize
+        requires { ⌜ zone < zones (geometry-of self) ⌝ }
+        ensures answer { λ r. ⌜ r ≡ start (geometry-of self) zone ⌝ }
+        ensures bound { λ r. ⌜ r ≤ 64 * 4096 ⌝ }
+    {
+        zone * self.capacity()
     }
 }
