@@ -1,11 +1,14 @@
--- The bounds of a geometry's products.
-use Prim.Native.Nat.{ℕ, _-_, _*_, _≤_}
+-- How large the numbers of a geometry can get.
+use Prim.Native.Nat.{_-_, _*_, _≤_}
 use native.Mathlib.Nat.{mul-le-mul-left}
 use native.Mathlib.Omega.{arith}
 use Rattle.std.proofs.shelf.Bits.{mul-le}
+use Rattle.flatcard.specs.Card.{capacity, zones}
+use Rattle.zones.specs.declared.geometry.Geometry.{Geometry}
+use Rattle.zones.specs.Geometries.{geometry-of}
 
-pub capacity-bound : (width depth : ℕ) → width ≤ 16 → depth ≤ 64 → 4 * width * depth ≤ 4096
-capacity-bound width depth h l = mul-le (4 * width) depth 64 64 (omega arith) l
+pub few-sectors : (g : Geometry) → capacity (geometry-of g) ≤ 4096
+few-sectors g = mul-le (4 * g .width) (g .depth) 64 64 (omega arith) (g .shallow)
 
-pub zones-bound : (chips blocks limit : ℕ) → chips * blocks ≤ 64 → chips * (blocks - limit) ≤ 64
-zones-bound chips blocks limit h = let less : blocks - limit ≤ blocks = omega arith in omega (arith, mul-le-mul-left chips less)
+pub few-zones : (g : Geometry) → zones (geometry-of g) ≤ 64
+few-zones g = let less : g .blocks - g .limit ≤ g .blocks = omega arith in omega (arith, mul-le-mul-left (g .chips) less)

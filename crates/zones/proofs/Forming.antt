@@ -116,6 +116,12 @@ pub none-of : (o : Option Geometry) → isSome o ≡ false → o ≡ None
 none-of None e = refl
 none-of (Some g) e = absurd (false≢true (sym e))
 
+-- what an accepted form owes: the books before and after
+pub record Formed-well (m : Memory) (b b′ : Book) (limit width : ℕ) : Type 0 where
+  pub answer : done 0 0 0 ≡ form (flat-of m b (b .geometry)) limit width (survey m) .0
+  pub flat : flat-of m b′ (b′ .geometry) ≡ form (flat-of m b (b .geometry)) limit width (survey m) .1
+  pub intact : Intact-book m b′ (b′ .geometry)
+
 module _ (m : Memory) (b b′ : Book) (shape : Shape) (limit width : ℕ) (g : Geometry) (seen : shape ≡ shape-of m) (fit : Fitting shape limit width g)
     (unformed-is : b .geometry ≡ None) (blank-is : printed (survey m) ≡ false) (begun : Begun b′ g) where
   geometry-is : geometry-of g ≡ geometry-on (survey m) limit width
@@ -136,14 +142,12 @@ module _ (m : Memory) (b b′ : Book) (shape : Shape) (limit width : ℕ) (g : G
       let wide : g .width ≡ width = ap (λ x. x .width) geometry-is in
       (λ i. chips i * wide i) ∙ omega (arith, div-add-mod' (m .banks) width)
 
-  pub form-answer : done 0 0 0 ≡ form (flat-of m b (b .geometry)) limit width (survey m) .0
-  form-answer = sym (ap (λ r. r .0) accepted)
-
-  pub form-flat : flat-of m b′ (b′ .geometry) ≡ form (flat-of m b (b .geometry)) limit width (survey m) .1
-  form-flat =
-      ap (flat-of m b′) (begun .geometry)
-      ∙ ap formed (card-is m b′ g begun ∙ ap (new-card (survey m)) geometry-is)
-      ∙ sym (ap (λ r. r .1) accepted)
-
-  pub form-intact : Intact-book m b′ (b′ .geometry)
-  form-intact = subst (Intact-book m b′) (sym (begun .geometry)) (intact-is m b′ g begun (new-laid-out m (geometry-of g) whole (ap (λ x. x .blocks) geometry-is) (ap (λ x. x .depth) geometry-is) blank-is))
+  pub formed-well : Formed-well m b b′ limit width
+  formed-well = record {
+    answer = sym (ap (λ r. r .0) accepted);
+    flat = ap (flat-of m b′) (begun .geometry)
+        ∙ ap formed (card-is m b′ g begun ∙ ap (new-card (survey m)) geometry-is)
+        ∙ sym (ap (λ r. r .1) accepted);
+    intact = subst (Intact-book m b′) (sym (begun .geometry))
+        (intact-is m b′ g begun (new-laid-out m (geometry-of g) whole (ap (λ x. x .blocks) geometry-is) (ap (λ x. x .depth) geometry-is) blank-is));
+  }
