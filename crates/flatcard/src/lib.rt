@@ -1,5 +1,7 @@
 // The model of the card: the flat card and its seven calls are definitions in specs/, without code.
 // The functions here carry what is proved of those definitions.
+#![tactic(auto)]
+
 ghost use Rattle.flatcard.specs.Cases.{WorkedCases};
 ghost use Rattle.flatcard.specs.Laws.{Laws};
 
