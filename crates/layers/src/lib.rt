@@ -1,4 +1,6 @@
 // Layers: flashes made of other flashes.
+#![tactic(auto)]
+
 pub mod pair;
 pub mod replacer;
 pub mod whitener;

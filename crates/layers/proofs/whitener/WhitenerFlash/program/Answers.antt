@@ -30,7 +30,7 @@ returns g c =
     let p = c.args.page in
     let bytes = c.args.bytes.now in
     let stored = c.whiten.new.bytes in
-    let is = c.whiten.ensures ∙ (ap (whitened_run c.mask-at.result) c.copy-from-slice.ensures.after ∙ run_is b k p 0 c.mask-at.result bytes c.mask-at.ensures) in
+    let is = c.whiten.ensures ∙ (ap (whitened_run c.mask_at.result) c.copy_from_slice.ensures.after ∙ run_is b k p 0 c.mask_at.result bytes c.mask_at.ensures) in
     record {
       answer = c.program-2.ensures.answer ∙ whitened_programs m b k p stored bytes (ap length is ∙ length-indexed (whitened_byte b k p) 0 bytes);
       after = whitened_programmed m b k _ p bytes stored is c.program-2.ensures.after;

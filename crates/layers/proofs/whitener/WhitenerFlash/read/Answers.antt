@@ -3,8 +3,8 @@ use Rattle.flash.proofs.Calls.{number_some, read_within}
 use Rattle.layers.proofs.Whites.{whitened_filled, whitened_reads, whitened_unfilled}
 use Rattle.layers.proofs.whitener.WhitenerFlash.read.Goals as goal
 
-pub mask-at-requires : goal.mask-at-requires
-mask-at-requires g c =
+pub mask_at-requires : goal.mask_at-requires
+mask_at-requires g c =
     let s = c.args.self.now.inner in
     let a = c.args in
     let w = read_within (g.F.Flash.memory s) a.bank a.block a.page a.quarter a.buffer.now (g.F.Flash.bounds s) (sym c.in-Ok.ensures.answer) in
@@ -17,7 +17,7 @@ returns-in-Ok g c =
     let z = c.in-Ok.ensures.answer in
     record {
       answer = z ∙ whitened_reads m a.bank a.block a.page a.quarter a.buffer.now;
-      buffer = c.whiten.ensures ∙ whitened_filled m a.bank a.block a.page a.quarter a.buffer.now c.read.new.buffer c.read.ensures.buffer c.mask-at.result z c.mask-at.ensures;
+      buffer = c.whiten.ensures ∙ whitened_filled m a.bank a.block a.page a.quarter a.buffer.now c.read.new.buffer c.read.ensures.buffer c.mask_at.result z c.mask_at.ensures;
     }
 
 pub returns-in-Err : goal.returns-in-Err
