@@ -15,7 +15,7 @@ returns c =
     let done = found_erases found (omega arith) in
     record {
       answer = sym done;
-      after = shown_erased found c.lives-left-lives.result c.lives-left-lives.ensures c.lives-left-lives.type-inv ∙ sym (not_refused _ _ _ done);
+      after = shown_erased found c.lives_left-lives.result c.lives_left-lives.ensures c.lives_left-lives.type_inv ∙ sym (not_refused _ _ _ done);
       bytes = refl;
       refused = λ e. absurd (false≢true (sym e));
     }

@@ -10,8 +10,8 @@ returns-then-page-standing c =
     let order = found_order c.in-Some.ensures c.args.page c.args.bytes.now (omega arith) (omega arith) (λ e. omega arith) in
     record { answer = sym order; after = sym (refused _ 3 _ _ order (omega arith)); refused = λ _. refl }
 
-pub slice-bounds-copy-from-slice-end : goal.slice-bounds-copy-from-slice-end
-slice-bounds-copy-from-slice-end c = found_page c.in-Some.ensures c.args.page (omega arith)
+pub slice_bounds-copy_from_slice-end : goal.slice_bounds-copy_from_slice-end
+slice_bounds-copy_from_slice-end c = found_page c.in-Some.ensures c.args.page (omega arith)
 
 pub returns : goal.returns
 returns c =
@@ -22,7 +22,7 @@ returns c =
     record {
       answer = sym done;
       after = shown_programmed found c.args.page c.args.bytes.now (omega arith) (omega arith) _ (omega arith)
-          (put_one n (n + 2048) s.bytes.now c.args.bytes.now _ c.copy-from-slice.ensures.after (omega arith))
+          (put_one n (n + 2048) s.bytes.now c.args.bytes.now _ c.copy_from_slice.ensures.after (omega arith))
           ∙ sym (not_refused _ _ _ done);
       refused = λ e. absurd (false≢true (sym e));
     }

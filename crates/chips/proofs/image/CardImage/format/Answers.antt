@@ -11,21 +11,21 @@ use Rattle.chips.proofs.image.CardImage.format.Goals as goal
 pub loop-i-init : goal.loop-i-init
 loop-i-init c =
     begun_none c.args.shape c.args.lives _ _ _ (c.fill.ensures.after (λ y e. e)) (image_sizes_of c.args.shape c.args.bytes.now (search rules)).long
-    (c.copy-from-slice.ensures.after ∙ c.header.ensures)
+    (c.copy_from_slice.ensures.after ∙ c.header.ensures)
 
-pub block-start-start-requires : goal.block-start-start-requires
-block-start-start-requires c =
+pub block_start-start-requires : goal.block_start-start-requires
+block_start-start-requires c =
     let ranges = (image_sizes_of c.args.shape c.args.bytes.now (search rules)).ranges in
     (ranges.few_pages, omega (arith, few_in_all c.args.shape ranges))
 
-pub slice-bounds-copy-from-slice-end-in-loop-i : goal.slice-bounds-copy-from-slice-end-in-loop-i
-slice-bounds-copy-from-slice-end-in-loop-i c =
+pub slice_bounds-copy_from_slice-end-in-loop-i : goal.slice_bounds-copy_from_slice-end-in-loop-i
+slice_bounds-copy_from_slice-end-in-loop-i c =
     omega (arith, c.loop-i.auto.bytes, block_within c.args.shape c.args.bytes.now c.loop-i.i (search rules) (omega arith))
 
 pub loop-i-preserved : goal.loop-i-preserved
 loop-i-preserved c =
-    begun_more c.args.shape c.args.lives c.loop-i.bytes c.copy-from-slice-in-loop-i.new.self c.loop-i.i c.block-start-start.result _ (omega arith)
-    c.loop-i.invariant c.block-start-start.ensures (omega arith) (c.copy-from-slice-in-loop-i.ensures.after ∙ c.block-head-head.ensures)
+    begun_more c.args.shape c.args.lives c.loop-i.bytes c.copy_from_slice-in-loop-i.new.self c.loop-i.i c.block_start-start.result _ (omega arith)
+    c.loop-i.invariant c.block_start-start.ensures (omega arith) (c.copy_from_slice-in-loop-i.ensures.after ∙ c.block_head-head.ensures)
 
 pub returns : goal.returns
 returns c =

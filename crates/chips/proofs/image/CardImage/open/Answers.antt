@@ -6,6 +6,6 @@ use Rattle.chips.proofs.image.CardImage.open.Goals as goal
 pub returns : goal.returns
 returns c =
     let bytes = c.args.bytes.now in
-    let shape = c.image-shape-shape.ensures in
+    let shape = c.image_shape-shape.ensures in
     let memory = ap (λ s. shown_image s bytes) shape ∙ opened_shown bytes in
     record { memory = memory; bytes = refl; shape = shape; reopens = sym memory }

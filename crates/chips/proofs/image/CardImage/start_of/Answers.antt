@@ -5,8 +5,8 @@ use Rattle.chips.specs.Bounded.{number_below}
 use Rattle.chips.specs.Shapes.{few_in_all}
 use Rattle.chips.proofs.image.CardImage.start_of.Goals as goal
 
-pub block-start-requires : goal.block-start-requires
-block-start-requires c =
+pub block_start-requires : goal.block_start-requires
+block_start-requires c =
     let s = c.args.self.now.shape in
     let ranges = (image_sizes_of s (bytes_of c.args.self.now) (search rules)).ranges in
     (ranges.few_pages, omega (arith, few_in_all s ranges, number_below c.args.bank c.args.block s.banks s.blocks (search rules) (search rules)))
@@ -20,6 +20,6 @@ returns-then-block-self c =
       sizes = e;
       bank = search rules;
       block = search rules;
-      starts = c.block-start.ensures;
+      starts = c.block_start.ensures;
       within = omega (arith, block_within s bytes (c.args.bank * s.blocks + c.args.block) e (search (rules, number_below)));
     }

@@ -15,7 +15,7 @@ returns c =
     let before = bytes_of c.args.self.now in
     let found = c.in-Some.ensures in
     let done = found_erases found (omega arith) in
-    let now = c.blank-pages.ensures ∙ ap (λ l. with_blank_pages before c.in-Some.start s.pages (l - 1)) c.lives-from-lives.ensures in
+    let now = c.blank_pages.ensures ∙ ap (λ l. with_blank_pages before c.in-Some.start s.pages (l - 1)) c.lives_from-lives.ensures in
     record {
       answer = sym done;
       after = ap (shown_image s) now ∙ (shown_erased found ∙ sym (not_refused _ _ _ done));

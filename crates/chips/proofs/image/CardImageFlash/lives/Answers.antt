@@ -4,4 +4,4 @@ use Rattle.chips.proofs.ImageBlocks.{image_spot}
 use Rattle.chips.proofs.image.CardImageFlash.lives.Goals as goal
 
 pub returns-in-Some : goal.returns-in-Some
-returns-in-Some c = ap Some c.lives-from.ensures ∙ sym (ap lives_at (image_spot c.in-Some.ensures))
+returns-in-Some c = ap Some c.lives_from.ensures ∙ sym (ap lives_at (image_spot c.in-Some.ensures))
