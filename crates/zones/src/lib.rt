@@ -1,4 +1,6 @@
 // The card of zones over any flash.
+#![tactic(auto)]
+
 mod blank;
 mod book;
 mod card;

@@ -7,8 +7,8 @@ use Rattle.zones.proofs.blank.printed.Goals as goal
 pub loop-bank-init : goal.loop-bank-init
 loop-bank-init g c = refl
 
-pub returns-then-bank-printed : goal.returns-then-bank-printed
-returns-then-bank-printed g c =
+pub returns-then-bank_printed : goal.returns-then-bank_printed
+returns-then-bank_printed g c =
     let m = g.F.Flash.memory c.args.flash.now in
     sym (any_here c.args.shape.banks (λ b. any c.args.shape.blocks (stands m b)) c.loop-bank.bank (omega arith) (search rules))
     ∙ ap (λ s. any s.banks (λ b. any s.blocks (stands m b))) c.requires
