@@ -1,4 +1,6 @@
 // The line language of a program that drives a flash card: the commands of lines, and the texts that answer them.
+#![tactic(auto)]
+
 pub mod command;
 pub mod number;
 pub mod reply;

@@ -9,8 +9,8 @@ use Rattle.session.proofs.reply.show_zones.Goals as goal
 
 pub loop-zone-preserved : goal.loop-zone-preserved
 loop-zone-preserved c =
-    let line = c.as-str.ensures.value ∙ c.in-ok-line.ensures in
-    let text = pushed _ c.loop-zone.invariant c.in-ok-push-str.was c.push-str.ensures.bytes in
+    let line = c.as_str.ensures.value ∙ c.in_ok-line.ensures in
+    let text = pushed _ c.loop-zone.invariant c.in_ok-push_str.was c.push_str.ensures.bytes in
     let more = one_more c.args.zones.now c.loop-zone.zone-index no_line c.loop-zone-test.true in
     cc
 
