@@ -1,4 +1,6 @@
 // Drives a card over a chip in memory: one line of standard input is one call, and its answer is one line of output.
+#![tactic(auto)]
+
 use chips::bare::BareChip;
 use chips::record::BlockRecord;
 use flash::Shape;

@@ -1,4 +1,6 @@
 // Runs of the card over a bare chip, and over a stack of layers.
+#![tactic(auto)]
+
 #[cfg(test)]
 mod tests {
     use chips::bare::BareChip;

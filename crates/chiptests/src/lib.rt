@@ -1,4 +1,6 @@
 // Runs of the bare chip, on small shapes.
+#![tactic(auto)]
+
 #[cfg(test)]
 mod tests {
     use chips::bare::BareChip;

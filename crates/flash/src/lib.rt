@@ -1,4 +1,6 @@
 // A flash: banks of blocks of pages, what it means, and what every kind of it answers.
+#![tactic(auto)]
+
 ghost use Rattle.std.specs.Prelude.{◌≡◌};
 ghost use Rattle.flash.specs.Memory.{Memory, Bounds, shape_of};
 ghost use Rattle.flash.specs.Calls.{spot, standing_at, lives_at, program_number, programmed, read_number, filled, erase_number, erased};

@@ -1,4 +1,6 @@
 // Runs of the card image, on small shapes.
+#![tactic(auto)]
+
 #[cfg(test)]
 mod tests {
     use chips::image::CardImage;

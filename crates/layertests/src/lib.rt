@@ -1,4 +1,6 @@
 // Runs of the layers, alone over bare chips and all together over a pair of a bare chip and a card image.
+#![tactic(auto)]
+
 #[cfg(test)]
 mod tests {
     use chips::bare::BareChip;
@@ -8,7 +10,7 @@ mod tests {
     use layers::pair::Pair;
     use layers::replacer::Replacer;
     use layers::whitener::Whitener;
-    use std::process::Abort;
+    use std::alloc::{AllocError, Global};
 
     // A block that no page was programmed in, and that can take three erases.
     const FRESH: BlockRecord = BlockRecord {
@@ -104,11 +106,15 @@ mod tests {
     }
 
     // What a replacer shows over a bare chip of 16 banks of 16 blocks of one page.
-    fn replaced_of_many(spares: usize, bad: &[(usize, usize)]) -> Shape {
-        let mut bytes = [0u8; 524_288];
+    fn replaced_of_many(
+        heap: Global,
+        spares: usize,
+        bad: &[(usize, usize)],
+    ) -> Result<Shape, AllocError> {
+        let mut bytes = vec![in heap; 0u8; 524_288]?;
         let mut records = [FRESH; 256];
-        let chip = BareChip::new(shape(16, 16, 1), &mut bytes, &mut records);
-        Replacer::new(chip, spares, bad).shape()
+        let chip = BareChip::new(shape(16, 16, 1), bytes.as_mut_slice(), &mut records);
+        Ok(Replacer::new(chip, spares, bad).shape())
     }
 
     // Eight spares at most, and 32 pairs at most.
@@ -118,10 +124,10 @@ mod tests {
         let mut more = [(0, 0); 33];
         spread(&mut most);
         spread(&mut more);
-        assert!(rt; replaced_of_many(8, &[]) == shape(16, 8, 1));
-        assert!(rt; replaced_of_many(9, &[]) == shape(0, 0, 0));
-        assert!(rt; replaced_of_many(3, &most) == shape(16, 13, 1));
-        assert!(rt; replaced_of_many(3, &more) == shape(0, 0, 0));
+        assert!(rt; replaced_of_many(rt.alloc(), 8, &[]) == Ok(shape(16, 8, 1)));
+        assert!(rt; replaced_of_many(rt.alloc(), 9, &[]) == Ok(shape(0, 0, 0)));
+        assert!(rt; replaced_of_many(rt.alloc(), 3, &most) == Ok(shape(16, 13, 1)));
+        assert!(rt; replaced_of_many(rt.alloc(), 3, &more) == Ok(shape(0, 0, 0)));
     }
 
     // A byte that is stored by its position, page, block and bank, and read back as it was.
@@ -169,13 +175,13 @@ mod tests {
     }
 
     // All pages of all blocks of a flash of 3 banks, 6 blocks and 2 pages are programmed, read back and compared.
-    fn fill<F: Flash>(rt: &impl Abort, flash: &mut F) {
+    fn fill<F: Flash>(flash: &mut F) -> bool {
         for bank in 0..3 {
             for block in 0..6 {
                 for page in 0..2 {
-                    assert!(rt;
-                        flash.program(bank, block, page, &printed(bank, block, page)) == Ok(())
-                    );
+                    if flash.program(bank, block, page, &printed(bank, block, page)) != Ok(()) {
+                        return false;
+                    }
                 }
             }
         }
@@ -183,30 +189,33 @@ mod tests {
             for block in 0..6 {
                 for page in 0..2 {
                     for quarter in 0..4 {
-                        assert!(rt; reads_back(flash, bank, block, page, quarter));
+                        if !reads_back(flash, bank, block, page, quarter) {
+                            return false;
+                        }
                     }
                 }
             }
         }
+        true
     }
 
     // A whitener over a replacer over a pair of a bare chip and an image: written and read through, and erased in a block
     // that is found elsewhere.
-    fn drive(rt: &impl Abort, bytes: &mut [u8], records: &mut [BlockRecord], image: &mut [u8]) {
+    fn drive(bytes: &mut [u8], records: &mut [BlockRecord], image: &mut [u8]) -> bool {
         let chip = BareChip::new(shape(1, 8, 2), bytes, records);
         let pair = Pair::new(chip, CardImage::open(image));
         let bad = [(0, 2), (0, 6), (2, 0), (2, 5)];
         let mut stack = Whitener::new(Replacer::new(pair, 2, &bad));
-        assert!(rt; stack.shape() == shape(3, 6, 2));
-        fill(rt, &mut stack);
-        assert!(rt; stack.standing(2, 0) == Some(2));
-        assert!(rt; stack.lives(2, 0) == Some(4));
-        assert!(rt; stack.erase(2, 0) == Ok(()));
-        assert!(rt; stack.standing(2, 0) == Some(0));
-        assert!(rt; stack.lives(2, 0) == Some(3));
-        assert!(rt; stack.standing(2, 6) == None);
-        assert!(rt; stack.lives(3, 0) == None);
-        assert!(rt; stack.erase(2, 6) == Err(Refusal::Outside));
+        stack.shape() == shape(3, 6, 2)
+            && fill(&mut stack)
+            && stack.standing(2, 0) == Some(2)
+            && stack.lives(2, 0) == Some(4)
+            && stack.erase(2, 0) == Ok(())
+            && stack.standing(2, 0) == Some(0)
+            && stack.lives(2, 0) == Some(3)
+            && stack.standing(2, 6) == None
+            && stack.lives(3, 0) == None
+            && stack.erase(2, 6) == Err(Refusal::Outside)
     }
 
     // Where a stack puts what goes through it: the bad blocks are never touched, a replaced block lies in its spare
@@ -217,7 +226,7 @@ mod tests {
         let mut records = [FRESH; 8];
         let mut image = [0u8; 65_670];
         assert!(rt; CardImage::format(shape(2, 8, 2), 4, &mut image));
-        drive(&rt, &mut bytes, &mut records, &mut image);
+        assert!(rt; drive(&mut bytes, &mut records, &mut image));
         for (block, standing) in [
             (0, 2),
             (1, 2),

@@ -1,4 +1,6 @@
 // Lines that the session reads, and lines that it refuses.
+#![tactic(auto)]
+
 #[cfg(test)]
 mod tests {
     use session::command::{Command, parse};
