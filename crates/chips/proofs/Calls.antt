@@ -7,7 +7,7 @@ use Rattle.chips.specs.Bounded.{page_fits}
 use Rattle.chips.specs.Layout.{Found, Parts, block_count, made_of, no_record, page_at, pages_at, shown}
 use Rattle.chips.specs.declared.record.BlockRecord.{BlockRecord}
 use Rattle.chips.proofs.Blocks.{found_spot, seen, shown_changed}
-use Rattle.chips.proofs.Pages.{length-put_page, pages_at_other, pages_at_same, put_page, quarter_in}
+use Rattle.chips.proofs.Pages.{length-put_page, pages_at_other, pages_at_same, put_page, quarter_at}
 
 module _ {c : Parts} {b k i : ℕ} (found : Found c b k i) where
   abbrev kept : BlockRecord
@@ -58,7 +58,7 @@ module _ {c : Parts} {b k i : ℕ} (found : Found c b k i) where
     found_quarter h =
         ap (λ s. quarter_of (get_or s.block.pages p []) q) (found_spot found)
         ∙ (ap (λ x. quarter_of x q) (get_or-map-range_with_len (λ x. page_at c.bytes (i * c.shape.pages + x)) 0 (min kept.standing c.shape.pages) p p [] (omega arith) (omega arith))
-        ∙ quarter_in c.bytes ((i * c.shape.pages + p) * 2048) q part)
+        ∙ quarter_at c.bytes (i * c.shape.pages + p) q part)
 
   -- ---- erase
   pub found_worn : kept.lives ≡ 0 → erase_number (spot (shown c) b k) ≡ 5

@@ -1,31 +1,40 @@
 -- What a page that is written changes of the bytes, and what it leaves.
-use Rattle.std.proofs.Common.{◌≡◌, ℕ, ◌+◌, ◌-◌, ◌*◌, ◌/◌, ◌%◌, ◌<◌, ◌≤◌, ◌≢◌, List, [], ◌∷◌, ◌++◌, map, length, take, drop, sym, ap, ◌∙◌, arith}
+use Rattle.std.proofs.Common.{◌≡◌, ℕ, ◌+◌, ◌-◌, ◌*◌, ◌/◌, ◌%◌, ◌<◌, ◌≤◌, ◌≢◌, List, [], ◌∷◌, ◌++◌, map, length, take, drop, sym, ap, ◌∙◌, ⊎_elim, arith}
 use Rattle.std.specs.List.{range_with_len}
-use Rattle.std.proofs.lemmas.List.{drop-drop, drop-take, take_all, take-take}
+use Rattle.std.proofs.lemmas.List.{drop-take, take-take, drop-drop, length-take, length-drop, length-append}
 use Rattle.std.proofs.lemmas.List.FromFn.{fill_by_all, length-map-range_with_len, get_or-map-range_with_len, map-range_with_len_more}
+use Rattle.std.proofs.lemmas.Slice.{between-put_mid, drop-put_mid, take-put_mid_below}
 use Rattle.std.proofs.lemmas.Nat.{div-mul-add, mod-mul-add}
+use Rattle.std.proofs.lemmas.Bool.{cases_order}
+use borrow.Rule.Slice.PartMut.{put_mid}
 use Rattle.flash.specs.Calls.{quarter_of}
-use Rattle.chips.specs.ImageLayout.{put}
 use Rattle.chips.specs.Layout.{Parts, made_of, page_at, pages_at}
-use Rattle.chips.proofs.Stretches.{length-put, put_outside, put_part, same_part}
 
 -- the bytes with a page written at the number j
 abbrev pub put_page : List ℕ → ℕ → List ℕ → List ℕ
-put_page bytes j page = put (j * 2048) page bytes
+put_page bytes j page = put_mid (j * 2048) 2048 bytes page
 
 module _ (bytes page : List ℕ) (j : ℕ) (fits : j * 2048 + 2048 ≤ length bytes) (long : length page ≡ 2048) where
-  room : j * 2048 + length page ≤ length bytes
-  room = omega arith
-
   pub length-put_page : length (put_page bytes j page) ≡ length bytes
-  length-put_page = length-put (j * 2048) page bytes room
+  length-put_page = simp (length-append, length-take, length-drop) (omega arith)
 
   page_at_same : page_at (put_page bytes j page) j ≡ page
-  page_at_same = put_part (j * 2048) page bytes room (j * 2048) 0 2048 (omega arith) (omega arith) ∙ take_all 2048 page (omega arith)
+  page_at_same =
+      let a = j * 2048 in
+      let e : 2048 ≡ a + 2048 - a = omega arith in
+      ap (λ n. take n (drop a (put_page bytes j page))) e ∙ between-put_mid a 2048 bytes page (a + 2048) (omega arith) (omega arith)
+
+  page_at_before : (k : ℕ) → k < j → page_at (put_page bytes j page) k ≡ page_at bytes k
+  page_at_before k h =
+      let n = k * 2048 in
+      sym (drop-take n 2048 (put_page bytes j page))
+      ∙ (ap (drop n) (take-put_mid_below (j * 2048) 2048 bytes page (n + 2048) (omega arith) (omega arith)) ∙ drop-take n 2048 bytes)
+
+  page_at_after : (k : ℕ) → j < k → page_at (put_page bytes j page) k ≡ page_at bytes k
+  page_at_after k h = ap (take 2048) (drop-put_mid (j * 2048) 2048 bytes page (k * 2048) (omega arith) (omega arith) long)
 
   page_at_other : (k : ℕ) → k ≢ j → page_at (put_page bytes j page) k ≡ page_at bytes k
-  page_at_other k other =
-      same_part (put_page bytes j page) bytes (k * 2048) 2048 length-put_page (λ m l u. put_outside (j * 2048) page bytes room m (λ a b. other (omega arith)))
+  page_at_other k other = ⊎_elim (λ e. absurd (other e)) (⊎_elim (page_at_before k) (page_at_after k)) (cases_order k j)
 
 -- a number has one row and one column
 pub same_row : (a b w p q : ℕ) → p < w → q < w → a * w + p ≡ b * w + q → a ≡ b
@@ -60,10 +69,19 @@ module _ (c : Parts) (page : List ℕ) (i n : ℕ) (fits : (i * c.shape.pages + 
       same_counted (λ p. page_at with_page.bytes (k * c.shape.pages + p)) (λ p. page_at c.bytes (k * c.shape.pages + p)) m
       (λ p h. page_at_other c.bytes page (i * c.shape.pages + n) fits long (k * c.shape.pages + p) (λ e. other (same_row k i c.shape.pages p n (omega arith) l e)))
 
--- a quarter of a page is a part of the bytes
+-- a quarter of a page is a part of the bytes: of the page that begins at m, and of the page with the number j
 pub quarter_in : (bytes : List ℕ) (m q : ℕ) → q < 4 → quarter_of (take 2048 (drop m bytes)) q ≡ take 512 (drop (m + q * 512) bytes)
 quarter_in bytes m q h =
     let n = q * 512 in
     let e : n + (2048 - n) ≡ 2048 = omega arith in
     ap (take 512) (ap (λ x. drop n (take x (drop m bytes))) (sym e) ∙ drop-take n (2048 - n) (drop m bytes))
     ∙ (take-take 512 (2048 - n) (drop n (drop m bytes)) (omega arith) ∙ ap (take 512) (drop-drop n m bytes))
+
+pub quarter_at : (bytes : List ℕ) (j q : ℕ) → q < 4 → quarter_of (page_at bytes j) q ≡ take 512 (drop (j * 2048 + q * 512) bytes)
+quarter_at bytes j q h = quarter_in bytes (j * 2048) q h
+
+-- what the copy of a page into its place makes of the bytes
+pub copied_page : (bytes page part : List ℕ) (j : ℕ) → part ≡ page → put_mid (j * 2048) (j * 2048 + 2048 - j * 2048) bytes part ≡ put_page bytes j page
+copied_page bytes page part j e =
+    let s : j * 2048 + 2048 - j * 2048 ≡ 2048 = omega arith in
+    λ t. put_mid (j * 2048) (s t) bytes (e t)

@@ -40,13 +40,6 @@ module _ (n : ℕ) (new bytes : List ℕ) (fits : n + length new ≤ length byte
       ∙ (get_or-drop k (put n new bytes) i 0
       ∙ (put_inside (k + i) (j + i) (omega arith) (omega arith) ∙ (sym (get_or-drop j new i 0) ∙ sym (get_or-take m (drop j new) i 0 low)))))
 
--- what a write of us from n to m makes of the bytes
-pub put_one : (n m : ℕ) (bytes xs us : List ℕ) → us ≡ xs → m ≡ n + length xs → put_mid n (m - n) bytes us ≡ put n xs bytes
-put_one n m bytes xs us is e =
-    let past : n + (m - n) ≡ n + length xs = omega arith in
-    let rest = drop-drop (m - n) n bytes ∙ ap (λ i. drop i bytes) past in
-    (λ t. take n bytes ++ (is t ++ rest t)) ∙ simp append_assoc
-
 -- two parts that are written one before the other: first vs from m to e, then us from n to m
 pub put_both : (n m e : ℕ) (bytes xs ys us vs : List ℕ) → us ≡ xs → vs ≡ ys → m ≡ n + length xs → e ≡ m + length ys → e ≤ length bytes
     → put_mid n (m - n) (put_mid m (e - m) bytes vs) us ≡ put n (xs ++ ys) bytes
