@@ -1,12 +1,14 @@
 -- That a bare chip keeps within the bounds of a flash: the trait asks for it as a member, so its proof stands here and not in proofs/.
-use Rattle.std.specs.Prelude.{◌≡◌, ℕ, ◌+◌, ◌*◌, ◌<◌, ◌≤◌, true, ◌&&◌, List, [], map, length, nat_le, nat_lt, slice_index_or}
+use Rattle.std.specs.Prelude.{◌≡◌, ℕ, ◌+◌, ◌*◌, ◌<◌, ◌≤◌, true, ◌&&◌, List, [], map, length, slice_index_or}
 use Rattle.std.proofs.Common.{◌∙◌, ap, arith}
 use Rattle.std.proofs.lemmas.List.{get_or-map, length-take, length-drop, length-map}
 use Rattle.std.proofs.lemmas.List.FromFn.{length-map-range_with_len, get_or-map-range_with_len}
 use Rattle.std.proofs.lemmas.Nat.{mul-add-lt}
-use Rattle.std.proofs.lemmas.Bool.{and_parts, cond_both, cond-false, eqb-true, leb-true, ltb-true}
-use Rattle.flash.specs.Memory.{no_block, no_block_sound, no_banks, no_banks_bounds, Bounds, SoundBlock}
-use Rattle.chips.specs.Layout.{Parts, Valid, block_at, block_count, bytes_fit, clamped, in_range, laid_out, memory_of, no_record, page_at, parts_of, records_fit, shape_fits, shown, sizes_fit, with_clamped}
+use Rattle.std.proofs.lemmas.Bool.{and_parts, cond_both, eqb-true}
+use Rattle.flash.specs.Memory.{no_banks, no_banks_bounds, Bounds, SoundBlock}
+use Rattle.chips.specs.Layout.{Parts, Valid, block_at, block_count, bytes_fit, clamped, laid_out, memory_of, no_record, page_at, parts_of, records_fit, shape_fits, shown, sizes_fit, with_clamped}
+use Rattle.chips.specs.Numbered.{numbered_bounds}
+use Rattle.chips.specs.Shapes.{Ranges, ranges_of}
 use Rattle.chips.specs.declared.bare.BareChip.{BareChip}
 use Rattle.chips.specs.declared.record.BlockRecord.{BlockRecord}
 
@@ -32,26 +34,29 @@ pub record Sizes (c : Parts) : Type 0 where
   pub records : length c.records ≡ block_count c.shape
   pub bytes : length c.bytes ≡ block_count c.shape * c.shape.pages * 2048
 
-ranged : (n most : ℕ) → in_range n most ≡ true → (0 < n) × (n ≤ most)
-ranged n most e = let p = and_parts (nat_lt 0 n) (nat_le n most) e in (ltb-true 0 n p.0, leb-true n most p.1)
+-- the numbers of the shape are in their ranges
+pub ranges_within : (c : Parts) → Sizes c → Ranges c.shape
+ranges_within c sizes = record {
+  some_banks = sizes.some_banks;
+  few_banks = sizes.few_banks;
+  some_blocks = sizes.some_blocks;
+  few_blocks = sizes.few_blocks;
+  some_pages = sizes.some_pages;
+  few_pages = sizes.few_pages;
+}
 
 pub sizes_of : (c : Parts) → sizes_fit c ≡ true → Sizes c
 sizes_of c e =
-    let s = c.shape in
-    let all = and_parts (shape_fits s) (records_fit c && bytes_fit c) e in
-    let banks = and_parts (in_range s.banks 16) (in_range s.blocks 64 && in_range s.pages 64) all.0 in
-    let blocks = and_parts (in_range s.blocks 64) (in_range s.pages 64) banks.1 in
+    let all = and_parts (shape_fits c.shape) (records_fit c && bytes_fit c) e in
+    let ranges = ranges_of c.shape all.0 in
     let held = and_parts (records_fit c) (bytes_fit c) all.1 in
-    let x = ranged s.banks 16 banks.0 in
-    let y = ranged s.blocks 64 blocks.0 in
-    let z = ranged s.pages 64 blocks.1 in
     record {
-      some_banks = x.0;
-      few_banks = x.1;
-      some_blocks = y.0;
-      few_blocks = y.1;
-      some_pages = z.0;
-      few_pages = z.1;
+      some_banks = ranges.some_banks;
+      few_banks = ranges.few_banks;
+      some_blocks = ranges.some_blocks;
+      few_blocks = ranges.few_blocks;
+      some_pages = ranges.some_pages;
+      few_pages = ranges.few_pages;
       records = eqb-true _ _ held.0;
       bytes = eqb-true _ _ held.1;
     }
@@ -73,20 +78,7 @@ module _ (c : Parts) (sizes : Sizes c) (valid : Valid (block_count c.shape) c.sh
       }
 
   laid_out_bounds : Bounds (laid_out c)
-  laid_out_bounds =
-      let s = c.shape in
-      record {
-        banks = sizes.few_banks;
-        blocks = sizes.few_blocks;
-        depth = sizes.few_pages;
-        some = λ _. (sizes.some_blocks, sizes.some_pages);
-        none = λ z. absurd (omega arith);
-        each = λ b k. cond_both (nat_lt b s.banks && nat_lt k s.blocks) (block_at c (b * s.blocks + k)) no_block (SoundBlock s.pages)
-            (λ e. let p = and_parts (nat_lt b s.banks) (nat_lt k s.blocks) e in
-            block_sound (b * s.blocks + k) (number_below b k s.banks s.blocks (ltb-true b s.banks p.0) (ltb-true k s.blocks p.1)))
-            (λ _. no_block_sound s.pages);
-        outside = λ b k e. cond-false (nat_lt b s.banks && nat_lt k s.blocks) (block_at c (b * s.blocks + k)) no_block e;
-      }
+  laid_out_bounds = numbered_bounds c.shape (block_at c) (ranges_within c sizes) block_sound
 
 pub clamped_valid : (depth : ℕ) (records : List BlockRecord) → Valid (length records) depth (map (clamped depth) records)
 clamped_valid depth records i h =

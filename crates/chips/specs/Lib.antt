@@ -1,7 +1,7 @@
 pub mod Layout
-pub mod Bounded
 pub mod Shapes
 pub mod Numbered
+pub mod Bounded
 pub mod ImageLayout
 pub mod ImageBounded
 pub mod ImageBlank

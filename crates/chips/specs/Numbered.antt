@@ -1,10 +1,10 @@
 -- Flashes whose blocks are numbered from 0 on, bank by bank.
 use Rattle.std.specs.Prelude.{ℕ, ◌+◌, ◌*◌, ◌<◌, cond, ◌&&◌, nat_lt}
 use Rattle.std.proofs.Common.{arith}
+use Rattle.std.proofs.lemmas.Nat.{mul-add-lt}
 use Rattle.std.proofs.lemmas.Bool.{and_parts, cond_both, cond-false, ltb-true}
 use Rattle.flash.specs.Memory.{Memory, Block, Bounds, SoundBlock, no_block, no_block_sound}
 use Rattle.flash.specs.declared.Shape.{Shape}
-use Rattle.chips.specs.Bounded.{number_below}
 use Rattle.chips.specs.Layout.{block_count}
 use Rattle.chips.specs.Shapes.{Ranges}
 
@@ -27,7 +27,7 @@ numbered_bounds s f ranges sound = record {
   none = λ z. absurd (omega (arith, ranges.some_banks));
   each = λ b k. cond_both (nat_lt b s.banks && nat_lt k s.blocks) (f (b * s.blocks + k)) no_block (SoundBlock s.pages)
       (λ e. let p = and_parts (nat_lt b s.banks) (nat_lt k s.blocks) e in
-      sound (b * s.blocks + k) (number_below b k s.banks s.blocks (ltb-true b s.banks p.0) (ltb-true k s.blocks p.1)))
+      sound (b * s.blocks + k) (omega (arith, mul-add-lt b s.blocks k s.banks (ltb-true b s.banks p.0) (ltb-true k s.blocks p.1))))
       (λ _. no_block_sound s.pages);
   outside = λ b k e. cond-false (nat_lt b s.banks && nat_lt k s.blocks) (f (b * s.blocks + k)) no_block e;
 }

@@ -1,5 +1,5 @@
 use Rattle.std.proofs.Common.{◌≡◌, true, sym, refl, rules}
-use Rattle.chips.specs.Bounded.{number_below, sizes_of}
+use Rattle.chips.specs.Bounded.{number_below, ranges_within, sizes_of}
 use Rattle.chips.specs.Layout.{parts_of, sizes_fit}
 use Rattle.chips.specs.Shapes.{few_in_all}
 use Rattle.chips.proofs.bare.BareChip.number_of.Goals as goal
@@ -15,7 +15,7 @@ returns-then-block-self c =
       block = search rules;
       number = refl;
       counted = search (rules, number_below);
-      few = few_in_all s (record { some_banks = f.some_banks; few_banks = f.few_banks; some_blocks = f.some_blocks; few_blocks = f.few_blocks; some_pages = f.some_pages; few_pages = f.few_pages });
+      few = few_in_all s (ranges_within (parts_of c.args.self.now) f);
       depth = f.few_pages;
       records = sym f.records;
       bytes = sym f.bytes;
