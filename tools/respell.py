@@ -3,8 +3,9 @@
 
 usage: python3 tools/respell.py      at the top of a checkout, once, after the kit's port.py
 
-A name is the repository's own if a file of specs/ or proofs/ declares it: as a definition, a lemma, a record or one of its fields, or by a `let`.
-Left as they are: names that Rattle makes (goals, and the steps that an answer cites), names of the library, functions and other names of src/, comments and strings.
+A name is the repository's own if a file of specs/ or proofs/ declares it: as a definition, a lemma, a record or one of its fields, by a `let` or as an argument `(name : ..)`.
+It is turned in specs/, proofs/, the clauses of src/, and what README.md and docs/ have between backquotes.
+Left as they are: names that Rattle makes (goals, and the steps that an answer cites), names of the library, functions and other names of src/, strings, and lines that are comments.
 In a lemma on the length, the elements or the spots of something a dash joins the two names, as the library has it: `length-put_page`.
 """
 import glob
