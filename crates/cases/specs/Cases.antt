@@ -1,5 +1,6 @@
 -- The worked cases of the model, and of the layers: what the definitions that the contracts cite come to on a small card, on one byte and on one bad block.
 use Rattle.std.specs.Prelude.{◌≡◌, [], ◌∷◌, ℕ, get_or, replicate}
+use Rattle.flash.specs.Maps.{address}
 use Rattle.flash.specs.Memory.{Block, Memory}
 use Rattle.flatcard.specs.Cases as model
 use Rattle.layers.specs.Replaced.{replaced}
@@ -20,4 +21,4 @@ pub record WorkedCases : Type 0 where
   -- whitening: FF at position 4 of page 3 of block 2 of bank 1
   pub whitened_ff : get_or (get_or ((whitened all_ones).at 1 2).pages 3 []) 4 0 ≡ 0xB7
   -- replacing: of eight blocks two are spares, and blocks 2 and 6 of bank 0 are bad
-  pub replaced_2 : (at : ℕ → ℕ → Block) → (replaced 2 ((0, 2) ∷ (0, 6) ∷ []) (eight_blocks at)).at 0 2 ≡ at 0 7
+  pub replaced_2 : (at : ℕ → ℕ → Block) → (replaced 2 (address 0 2 ∷ address 0 6 ∷ []) (eight_blocks at)).at 0 2 ≡ at 0 7

@@ -27,9 +27,13 @@ no_banks = record { banks = 0; blocks = 0; depth = 0; at = λ b k. no_block }
 abbrev pub shape_of : Memory → Shape
 shape_of m = record { banks = m.banks; blocks = m.blocks; pages = m.depth }
 
+-- in a flash of this shape the bank b has a block k
+abbrev pub in_shape : Shape → ℕ → ℕ → Bool
+in_shape s b k = nat_lt b s.banks && nat_lt k s.blocks
+
 -- the bank b has a block k
 abbrev pub inside : Memory → ℕ → ℕ → Bool
-inside m b k = nat_lt b m.banks && nat_lt k m.blocks
+inside m b k = in_shape (shape_of m) b k
 
 -- a block has at most as many standing pages as its depth, each of 2,048 bytes, and at most 65,535 lives
 pub record SoundBlock (depth : ℕ) (v : Block) : Type 0 where

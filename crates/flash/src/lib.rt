@@ -2,7 +2,7 @@
 #![tactic(auto)]
 
 ghost use Rattle.std.specs.Prelude.{◌≡◌};
-ghost use Rattle.flash.specs.Memory.{Memory, Bounds, shape_of};
+ghost use Rattle.flash.specs.Memory.{Memory, Bounds, in_shape, shape_of};
 ghost use Rattle.flash.specs.Calls.{spot, standing_at, lives_at, program_number, programmed, read_number, filled, erase_number, erased};
 ghost use Rattle.flash.specs.Numbers.{answer};
 
@@ -27,6 +27,22 @@ pub struct Shape {
     pub banks: usize,
     pub blocks: usize,
     pub pages: usize,
+}
+
+// A block of a flash: its bank, and its number in the bank.
+#[derive(Clone, Copy, PartialEq, Eq, Debug)]
+pub struct BlockAddress {
+    pub bank: usize,
+    pub block: usize,
+}
+
+impl Shape {
+    // Whether a flash of this shape has the block.
+    pub fn contains(self, at: BlockAddress) -> bool
+        ensures { result ≡ in_shape self at.bank at.block }
+    {
+        at.bank < self.banks && at.block < self.blocks
+    }
 }
 
 // What a flash shows that has no banks.
@@ -54,38 +70,31 @@ pub trait Flash {
         ensures { result ≡ shape_of (memory self.now) };
 
     // How many pages stand in a block, or none where the block is not there.
-    fn standing(&self, bank: usize, block: usize) -> Option<usize>
-        ensures { result ≡ standing_at (spot (memory self.now) bank block) };
+    fn standing(&self, at: BlockAddress) -> Option<usize>
+        ensures { result ≡ standing_at (spot (memory self.now) at.bank at.block) };
 
     // How many erases a block can still take, or none where the block is not there.
-    fn lives(&self, bank: usize, block: usize) -> Option<u16>
-        ensures { result ≡ lives_at (spot (memory self.now) bank block) };
+    fn lives(&self, at: BlockAddress) -> Option<u16>
+        ensures { result ≡ lives_at (spot (memory self.now) at.bank at.block) };
 
     // Fills a sector's buffer with one quarter of a standing page.
     fn read(
         &self,
-        bank: usize,
-        block: usize,
+        at: BlockAddress,
         page: usize,
         quarter: usize,
         buffer: &mut [u8],
     ) -> Result<(), Refusal>
-        ensures answer { answer result ≡ read_number (spot (memory self.now) bank block) page quarter buffer.old }
-        ensures buffer { buffer.new ≡ filled (spot (memory self.now) bank block) page quarter buffer.old };
+        ensures answer { answer result ≡ read_number (spot (memory self.now) at.bank at.block) page quarter buffer.old }
+        ensures buffer { buffer.new ≡ filled (spot (memory self.now) at.bank at.block) page quarter buffer.old };
 
     // Adds one page at the end of a block's standing pages.
-    fn program(
-        &mut self,
-        bank: usize,
-        block: usize,
-        page: usize,
-        bytes: &[u8],
-    ) -> Result<(), Refusal>
-        ensures answer { answer result ≡ program_number (spot (memory self.old) bank block) page bytes.now }
-        ensures after { memory self.new ≡ programmed (memory self.old) bank block page bytes.now };
+    fn program(&mut self, at: BlockAddress, page: usize, bytes: &[u8]) -> Result<(), Refusal>
+        ensures answer { answer result ≡ program_number (spot (memory self.old) at.bank at.block) page bytes.now }
+        ensures after { memory self.new ≡ programmed (memory self.old) at.bank at.block page bytes.now };
 
     // Empties a block and takes one of its lives.
-    fn erase(&mut self, bank: usize, block: usize) -> Result<(), Refusal>
-        ensures answer { answer result ≡ erase_number (spot (memory self.old) bank block) }
-        ensures after { memory self.new ≡ erased (memory self.old) bank block };
+    fn erase(&mut self, at: BlockAddress) -> Result<(), Refusal>
+        ensures answer { answer result ≡ erase_number (spot (memory self.old) at.bank at.block) }
+        ensures after { memory self.new ≡ erased (memory self.old) at.bank at.block };
 }

@@ -1,6 +1,6 @@
 -- The worked cases: what the definitions come to on a small card, on one byte and on one bad block.
 use Rattle.std.specs.Prelude.{◌≡◌, ℕ, ◌*◌, List, [], ◌∷◌, replicate}
-use Rattle.flash.specs.Maps.{whitened_byte, replaced_block}
+use Rattle.flash.specs.Maps.{address, whitened_byte, replaced_block}
 use Rattle.flatcard.specs.Card.{Geometry, Flat, unformed, refused, done, Survey, Line}
 use Rattle.flatcard.specs.Striping.{place}
 use Rattle.flatcard.specs.Calls.{form, write, reset, thread, report}
@@ -62,4 +62,4 @@ pub record WorkedCases : Type 0 where
   -- whitening
   pub whitened : whitened_byte 1 2 3 4 0xFF ≡ 0xB7
   -- replacing: of eight blocks two are spares, and blocks 2 and 6 of bank 0 are bad
-  pub replaced : replaced_block 8 2 ((0, 2) ∷ (0, 6) ∷ []) 0 2 ≡ 7
+  pub replaced : replaced_block 8 2 (address 0 2 ∷ address 0 6 ∷ []) 0 2 ≡ 7

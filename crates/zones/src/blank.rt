@@ -5,13 +5,13 @@ ghost use Rattle.flatcard.specs.Card.{survey};
 ghost use Rattle.flatcard.specs.Verbs.{any, printed};
 ghost use Rattle.zones.specs.Blank.{stands};
 
-use flash::{Flash, Shape};
+use flash::{BlockAddress, Flash, Shape};
 
 // Whether a page stands in a block.
 fn block_printed<F: Flash>(flash: &F, bank: usize, block: usize) -> bool
     ensures { result ≡ stands (F.Flash.memory flash.now) bank block }
 {
-    match flash.standing(bank, block) {
+    match flash.standing(BlockAddress { bank, block }) {
         Some(count) => count > 0,
         None => false,
     }

@@ -6,52 +6,40 @@ ghost use Rattle.zones.specs.Numbers.{refusal_number};
 #[derive(Clone, Copy, PartialEq, Eq, Debug)]
 pub enum CardRefusal {
     // the card is not formed yet
-    Unformed,
+    Unformed = 11,
     // the card is formed already
-    Formed,
+    Formed = 12,
     // the numbers of the form do not fit the flash
-    Shape,
+    Shape = 13,
     // a page of the flash stands
-    Printed,
+    Printed = 14,
     // the bytes, the map or the list have a wrong length
-    Length,
+    Length = 15,
     // there is no such address, zone or offset
-    Range,
+    Range = 16,
     // the zone is not in the state that the call needs
-    State,
+    State = 17,
     // the write does not begin at the write pointer
-    Pointer,
+    Pointer = 18,
     // the write meets a kept sector
-    Kept,
+    Kept = 19,
     // as many zones as allowed are open or threaded
-    OpenLimit,
+    OpenLimit = 20,
     // no group is free
-    NoGroup,
+    NoGroup = 21,
 }
 
-impl CardRefusal {
-    // The number by which hosts know the refusal.
-    pub fn number(self) -> usize
-        ensures { result ≡ refusal_number self }
-    {
-        match self {
-            CardRefusal::Unformed => 11,
-            CardRefusal::Formed => 12,
-            CardRefusal::Shape => 13,
-            CardRefusal::Printed => 14,
-            CardRefusal::Length => 15,
-            CardRefusal::Range => 16,
-            CardRefusal::State => 17,
-            CardRefusal::Pointer => 18,
-            CardRefusal::Kept => 19,
-            CardRefusal::OpenLimit => 20,
-            CardRefusal::NoGroup => 21,
-        }
+// The number by which hosts know the refusal.
+impl From<CardRefusal> for usize {
+    ghost from_gives = { λ refusal n. n ≡ refusal_number refusal };
+
+    fn from(refusal: CardRefusal) -> usize {
+        refusal as usize
     }
 }
 
 // What an accepted call did: pages programmed, sectors copied by the card itself, and blocks erased.
-#[derive(Clone, Copy, PartialEq, Eq, Debug)]
+#[derive(Clone, Copy, Default, PartialEq, Eq, Debug)]
 pub struct Done {
     pub programmed: usize,
     pub copied: usize,

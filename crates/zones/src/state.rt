@@ -4,22 +4,17 @@ ghost use Rattle.zones.specs.Numbers.{state_number};
 
 #[derive(Clone, Copy, PartialEq, Eq, Debug)]
 pub enum State {
-    Empty,
-    Open,
-    Full,
-    Threaded,
+    Empty = 0,
+    Open = 1,
+    Full = 2,
+    Threaded = 3,
 }
 
-impl State {
-    // The number by which hosts know the state.
-    pub fn number(self) -> usize
-        ensures { result ≡ state_number self }
-    {
-        match self {
-            State::Empty => 0,
-            State::Open => 1,
-            State::Full => 2,
-            State::Threaded => 3,
-        }
+// The number by which hosts know the state.
+impl From<State> for usize {
+    ghost from_gives = { λ state n. n ≡ state_number state };
+
+    fn from(state: State) -> usize {
+        state as usize
     }
 }
