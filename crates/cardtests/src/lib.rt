@@ -6,7 +6,7 @@ mod tests {
     use chips::bare::BareChip;
     use chips::image::CardImage;
     use chips::record::BlockRecord;
-    use flash::Shape;
+    use flash::{BlockAddress, Shape};
     use layers::pair::Pair;
     use layers::replacer::Replacer;
     use layers::whitener::Whitener;
@@ -15,12 +15,6 @@ mod tests {
     const BLANK: BlockRecord = BlockRecord {
         standing: 0,
         lives: 3,
-    };
-
-    const NOTHING_DONE: Done = Done {
-        programmed: 0,
-        copied: 0,
-        erased: 0,
     };
 
     // A line that no card reports.
@@ -60,11 +54,7 @@ mod tests {
         }
         let mut bytes = [0u8; 163_840];
         let mut kept = with_record(records - 1, last);
-        let shape = Shape {
-            banks,
-            blocks,
-            pages: 1,
-        };
+        let shape = Shape::new(banks, blocks, 1);
         let chip = BareChip::new(shape, &mut bytes[0..records * 2048], &mut kept[0..records]);
         Some(Card::new(chip).form(limit, width))
     }
@@ -79,7 +69,7 @@ mod tests {
             ((12, 5, 60), 1, 4),
             ((8, 2, 16), 1, 8),
         ] {
-            assert_eq!(rt; formed(chip, 0, limit, width), Some(Ok(NOTHING_DONE)));
+            assert_eq!(rt; formed(chip, 0, limit, width), Some(Ok(Done::default())));
         }
     }
 
@@ -125,17 +115,13 @@ mod tests {
     fn reports(rt: HostRuntime) {
         let mut bytes = [0u8; 49_152];
         let mut records = [BLANK; 12];
-        let shape = Shape {
-            banks: 2,
-            blocks: 6,
-            pages: 2,
-        };
+        let shape = Shape::new(2, 6, 2);
         let mut card = Card::new(BareChip::new(shape, &mut bytes, &mut records));
         let mut list = [UNTOUCHED; 4];
         assert_eq!(rt; card.report(0, &mut list), Err(CardRefusal::Unformed));
         assert_eq!(rt; card.form(5, 2), Err(CardRefusal::Shape));
         assert_eq!(rt; card.report(0, &mut list[0..0]), Err(CardRefusal::Unformed));
-        assert_eq!(rt; card.form(2, 2), Ok(NOTHING_DONE));
+        assert_eq!(rt; card.form(2, 2), Ok(Done::default()));
         assert_eq!(rt; card.form(5, 2), Err(CardRefusal::Formed));
         assert_eq!(rt; card.report(1, &mut list), Err(CardRefusal::Range));
         assert_eq!(rt; card.report(usize::MAX, &mut list), Err(CardRefusal::Range));
@@ -154,21 +140,21 @@ mod tests {
     // Over a whitener over a replacer over a pair of a bare chip and an image the card is the same as over a bare chip.
     #[test]
     fn forms_over_a_stack(rt: HostRuntime) {
-        let one_bank = Shape {
-            banks: 1,
-            blocks: 8,
-            pages: 2,
-        };
+        let one_bank = Shape::new(1, 8, 2);
         let mut bytes = [0u8; 32_768];
         let mut records = [BLANK; 8];
         let mut image = [0u8; 32_838];
         assert!(rt; CardImage::format(one_bank, 3, &mut image));
         let chip = BareChip::new(one_bank, &mut bytes, &mut records);
         let pair = Pair::new(chip, CardImage::open(&mut image));
-        let stack = Whitener::new(Replacer::new(pair, 2, &[(0, 2), (1, 6)]));
+        let stack = Whitener::new(Replacer::new(
+            pair,
+            2,
+            &[BlockAddress::new(0, 2), BlockAddress::new(1, 6)],
+        ));
         let mut card = Card::new(stack);
         let mut list = [UNTOUCHED; 4];
-        assert_eq!(rt; card.form(2, 2), Ok(NOTHING_DONE));
+        assert_eq!(rt; card.form(2, 2), Ok(Done::default()));
         assert_eq!(rt; card.report(0, &mut list), Ok(()));
         assert_eq!(rt;
             list,

@@ -5,7 +5,8 @@
 mod tests {
     use chips::bare::BareChip;
     use chips::record::BlockRecord;
-    use flash::{Flash, Refusal, Shape};
+    use flash::{BlockAddress, Flash, NO_BANKS, Refusal, Shape};
+    use std::array;
 
     // A block that no page was programmed in, and that can take two erases.
     const FRESH: BlockRecord = BlockRecord {
@@ -13,21 +14,9 @@ mod tests {
         lives: 2,
     };
 
-    fn shape(banks: usize, blocks: usize, pages: usize) -> Shape {
-        Shape {
-            banks,
-            blocks,
-            pages,
-        }
-    }
-
     // A page whose quarters are of the bytes `first`, `first + 1`, `first + 2` and `first + 3`.
     fn page(first: u8) -> [u8; 2048] {
-        let mut bytes = [first; 2048];
-        for (i, byte) in bytes.iter_mut().enumerate() {
-            *byte = first.wrapping_add((i / 512 % 4) as u8);
-        }
-        bytes
+        array::from_fn(|i| first.wrapping_add((i / 512 % 4) as u8))
     }
 
     // What a chip of this shape shows over so many bytes and records, the last of which counts `last` standing pages;
@@ -51,12 +40,12 @@ mod tests {
     #[test]
     fn shapes_that_fit(rt: HostRuntime) {
         for (it, bytes, records, last) in [
-            (shape(1, 1, 1), 2048, 1, 0),
-            (shape(1, 1, 1), 2048, 1, 1),
-            (shape(16, 1, 1), 32_768, 16, 1),
-            (shape(1, 64, 1), 131_072, 64, 1),
-            (shape(1, 1, 64), 131_072, 1, 64),
-            (shape(2, 2, 2), 16_384, 4, 2),
+            (Shape::new(1, 1, 1), 2048, 1, 0),
+            (Shape::new(1, 1, 1), 2048, 1, 1),
+            (Shape::new(16, 1, 1), 32_768, 16, 1),
+            (Shape::new(1, 64, 1), 131_072, 64, 1),
+            (Shape::new(1, 1, 64), 131_072, 1, 64),
+            (Shape::new(2, 2, 2), 16_384, 4, 2),
         ] {
             assert!(rt; shown(it, bytes, records, last) == Some(it));
         }
@@ -67,19 +56,19 @@ mod tests {
     #[test]
     fn shapes_that_do_not_fit(rt: HostRuntime) {
         for (it, bytes, records, last) in [
-            (shape(0, 1, 1), 0, 0, 0),
-            (shape(1, 0, 1), 0, 0, 0),
-            (shape(1, 1, 0), 0, 1, 0),
-            (shape(17, 1, 1), 34_816, 17, 0),
-            (shape(1, 65, 1), 133_120, 65, 0),
-            (shape(1, 1, 65), 133_120, 1, 0),
-            (shape(2, 2, 2), 16_383, 4, 0),
-            (shape(2, 2, 2), 16_385, 4, 0),
-            (shape(2, 2, 2), 16_384, 3, 0),
-            (shape(2, 2, 2), 16_384, 5, 0),
-            (shape(2, 2, 2), 16_384, 4, 3),
+            (Shape::new(0, 1, 1), 0, 0, 0),
+            (Shape::new(1, 0, 1), 0, 0, 0),
+            (Shape::new(1, 1, 0), 0, 1, 0),
+            (Shape::new(17, 1, 1), 34_816, 17, 0),
+            (Shape::new(1, 65, 1), 133_120, 65, 0),
+            (Shape::new(1, 1, 65), 133_120, 1, 0),
+            (Shape::new(2, 2, 2), 16_383, 4, 0),
+            (Shape::new(2, 2, 2), 16_385, 4, 0),
+            (Shape::new(2, 2, 2), 16_384, 3, 0),
+            (Shape::new(2, 2, 2), 16_384, 5, 0),
+            (Shape::new(2, 2, 2), 16_384, 4, 3),
         ] {
-            assert!(rt; shown(it, bytes, records, last) == Some(shape(0, 0, 0)));
+            assert!(rt; shown(it, bytes, records, last) == Some(NO_BANKS));
         }
     }
 
@@ -89,12 +78,12 @@ mod tests {
         let mut bytes = page(0);
         let mut records = [FRESH; 2];
         let mut buffer = [0u8; 512];
-        let mut chip = BareChip::new(shape(1, 1, 1), &mut bytes, &mut records);
-        assert!(rt; chip.standing(0, 0) == None);
-        assert!(rt; chip.lives(0, 0) == None);
-        assert!(rt; chip.program(0, 0, 0, &page(1)) == Err(Refusal::Outside));
-        assert!(rt; chip.read(0, 0, 0, 0, &mut buffer) == Err(Refusal::Outside));
-        assert!(rt; chip.erase(0, 0) == Err(Refusal::Outside));
+        let mut chip = BareChip::new(Shape::new(1, 1, 1), &mut bytes, &mut records);
+        assert!(rt; chip.standing(BlockAddress::new(0, 0)) == None);
+        assert!(rt; chip.lives(BlockAddress::new(0, 0)) == None);
+        assert!(rt; chip.program(BlockAddress::new(0, 0), 0, &page(1)) == Err(Refusal::Outside));
+        assert!(rt; chip.read(BlockAddress::new(0, 0), 0, 0, &mut buffer) == Err(Refusal::Outside));
+        assert!(rt; chip.erase(BlockAddress::new(0, 0)) == Err(Refusal::Outside));
     }
 
     // Programs in turn, on 2 banks of 2 blocks of 2 pages: the first refusal that applies is the answer.
@@ -102,7 +91,7 @@ mod tests {
     fn programs(rt: HostRuntime) {
         let mut bytes = [0u8; 16_384];
         let mut records = [FRESH; 4];
-        let mut chip = BareChip::new(shape(2, 2, 2), &mut bytes, &mut records);
+        let mut chip = BareChip::new(Shape::new(2, 2, 2), &mut bytes, &mut records);
         let long = [9u8; 2049];
         for (bank, block, page, length, answer) in [
             (2, 0, 0, 2048, Err(Refusal::Outside)),
@@ -119,7 +108,13 @@ mod tests {
             (1, 0, 0, 2048, Ok(())),
         ] {
             let length: usize = length;
-            assert!(rt; chip.program(bank, block, page, &long[..length.min(2049)]) == answer);
+            assert!(rt;
+                chip.program(
+                    BlockAddress::new(bank, block),
+                    page,
+                    &long[..length.min(2049)]
+                ) == answer
+            );
         }
         for (bank, block, standing) in [
             (0, 0, Some(2)),
@@ -129,7 +124,7 @@ mod tests {
             (2, 0, None),
             (0, 2, None),
         ] {
-            assert!(rt; chip.standing(bank, block) == standing);
+            assert!(rt; chip.standing(BlockAddress::new(bank, block)) == standing);
         }
     }
 
@@ -138,10 +133,10 @@ mod tests {
     fn reads(rt: HostRuntime) {
         let mut bytes = [0u8; 8192];
         let mut records = [FRESH; 2];
-        let mut chip = BareChip::new(shape(1, 2, 2), &mut bytes, &mut records);
-        assert!(rt; chip.program(0, 1, 0, &page(10)) == Ok(()));
-        assert!(rt; chip.program(0, 1, 1, &page(20)) == Ok(()));
-        assert!(rt; chip.program(0, 0, 0, &page(30)) == Ok(()));
+        let mut chip = BareChip::new(Shape::new(1, 2, 2), &mut bytes, &mut records);
+        assert!(rt; chip.program(BlockAddress::new(0, 1), 0, &page(10)) == Ok(()));
+        assert!(rt; chip.program(BlockAddress::new(0, 1), 1, &page(20)) == Ok(()));
+        assert!(rt; chip.program(BlockAddress::new(0, 0), 0, &page(30)) == Ok(()));
         for (block, page, quarter, length, answer, byte) in [
             (1, 0, 0, 512, Ok(()), 10),
             (1, 0, 3, 512, Ok(()), 13),
@@ -157,7 +152,12 @@ mod tests {
             let length: usize = length;
             let mut buffer = [99u8; 513];
             assert!(rt;
-                chip.read(0, block, page, quarter, &mut buffer[..length.min(513)]) == answer
+                chip.read(
+                    BlockAddress::new(0, block),
+                    page,
+                    quarter,
+                    &mut buffer[..length.min(513)]
+                ) == answer
             );
             assert!(rt; buffer[0] == byte && buffer[510] == byte && buffer[512] == 99);
         }
@@ -168,21 +168,24 @@ mod tests {
     fn erases(rt: HostRuntime) {
         let mut bytes = [0u8; 4096];
         let mut records = [FRESH; 2];
-        let mut chip = BareChip::new(shape(1, 2, 1), &mut bytes, &mut records);
-        assert!(rt; chip.program(0, 0, 0, &page(40)) == Ok(()));
-        assert!(rt; chip.program(0, 1, 0, &page(50)) == Ok(()));
+        let mut chip = BareChip::new(Shape::new(1, 2, 1), &mut bytes, &mut records);
+        assert!(rt; chip.program(BlockAddress::new(0, 0), 0, &page(40)) == Ok(()));
+        assert!(rt; chip.program(BlockAddress::new(0, 1), 0, &page(50)) == Ok(()));
         for (block, answer, lives) in [
             (2, Err(Refusal::Outside), None),
             (1, Ok(()), Some(1)),
             (1, Ok(()), Some(0)),
             (1, Err(Refusal::Worn), Some(0)),
         ] {
-            assert!(rt; chip.erase(0, block) == answer);
-            assert!(rt; chip.lives(0, block) == lives);
+            assert!(rt; chip.erase(BlockAddress::new(0, block)) == answer);
+            assert!(rt; chip.lives(BlockAddress::new(0, block)) == lives);
         }
-        assert!(rt; chip.lives(0, 0) == Some(2) && chip.standing(0, 0) == Some(1));
-        assert!(rt; chip.standing(0, 1) == Some(0));
-        assert!(rt; chip.program(0, 0, 0, &page(60)) == Err(Refusal::Order));
+        assert!(rt;
+            chip.lives(BlockAddress::new(0, 0)) == Some(2)
+                && chip.standing(BlockAddress::new(0, 0)) == Some(1)
+        );
+        assert!(rt; chip.standing(BlockAddress::new(0, 1)) == Some(0));
+        assert!(rt; chip.program(BlockAddress::new(0, 0), 0, &page(60)) == Err(Refusal::Order));
         assert!(rt; bytes[0] == 40 && bytes[2048] == 50 && bytes[4095] == 53);
         assert!(rt; records[0].standing == 1 && records[0].lives == 2);
         assert!(rt; records[1].standing == 0 && records[1].lives == 0);
@@ -197,15 +200,15 @@ mod tests {
             lives: 1,
         }];
         let mut buffer = [0u8; 512];
-        let mut chip = BareChip::new(shape(1, 1, 1), &mut bytes, &mut records);
-        assert!(rt; chip.read(0, 0, 0, 0, &mut buffer) == Err(Refusal::Blank));
-        assert!(rt; chip.program(0, 0, 0, &page(1)) == Ok(()));
-        assert!(rt; chip.erase(0, 0) == Ok(()));
-        assert!(rt; chip.read(0, 0, 0, 0, &mut buffer) == Err(Refusal::Blank));
-        assert!(rt; chip.program(0, 0, 0, &page(5)) == Ok(()));
-        assert!(rt; chip.read(0, 0, 0, 3, &mut buffer) == Ok(()));
+        let mut chip = BareChip::new(Shape::new(1, 1, 1), &mut bytes, &mut records);
+        assert!(rt; chip.read(BlockAddress::new(0, 0), 0, 0, &mut buffer) == Err(Refusal::Blank));
+        assert!(rt; chip.program(BlockAddress::new(0, 0), 0, &page(1)) == Ok(()));
+        assert!(rt; chip.erase(BlockAddress::new(0, 0)) == Ok(()));
+        assert!(rt; chip.read(BlockAddress::new(0, 0), 0, 0, &mut buffer) == Err(Refusal::Blank));
+        assert!(rt; chip.program(BlockAddress::new(0, 0), 0, &page(5)) == Ok(()));
+        assert!(rt; chip.read(BlockAddress::new(0, 0), 0, 3, &mut buffer) == Ok(()));
         assert!(rt; buffer[0] == 8 && buffer[511] == 8);
-        assert!(rt; chip.erase(0, 0) == Err(Refusal::Worn));
-        assert!(rt; chip.standing(0, 0) == Some(1));
+        assert!(rt; chip.erase(BlockAddress::new(0, 0)) == Err(Refusal::Worn));
+        assert!(rt; chip.standing(BlockAddress::new(0, 0)) == Some(1));
     }
 }

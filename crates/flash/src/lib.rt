@@ -4,6 +4,7 @@
 ghost use Rattle.std.specs.Prelude.{◌≡◌};
 ghost use Rattle.flash.specs.Memory.{Memory, Bounds, in_shape, shape_of};
 ghost use Rattle.flash.specs.Calls.{spot, standing_at, lives_at, program_number, programmed, read_number, filled, erase_number, erased};
+ghost use Rattle.flash.specs.Maps.{address};
 ghost use Rattle.flash.specs.Numbers.{answer};
 
 // Why a flash refuses a call. The first that applies is the answer.
@@ -36,7 +37,25 @@ pub struct BlockAddress {
     pub block: usize,
 }
 
+impl BlockAddress {
+    pub fn new(bank: usize, block: usize) -> Self
+        ensures { result ≡ address bank block }
+    {
+        BlockAddress { bank, block }
+    }
+}
+
 impl Shape {
+    pub fn new(banks: usize, blocks: usize, pages: usize) -> Self
+        ensures { result ≡ record { banks = banks; blocks = blocks; pages = pages } }
+    {
+        Shape {
+            banks,
+            blocks,
+            pages,
+        }
+    }
+
     // Whether a flash of this shape has the block.
     pub fn contains(self, at: BlockAddress) -> bool
         ensures { result ≡ in_shape self at.bank at.block }

@@ -4,19 +4,11 @@
 #[cfg(test)]
 mod tests {
     use chips::image::CardImage;
-    use flash::{Flash, Refusal, Shape};
+    use flash::{BlockAddress, Flash, NO_BANKS, Refusal, Shape};
     use std::test::Fail;
 
     // A byte that no blank image has where these tests look.
     const OLD: u8 = 7;
-
-    fn shape(banks: usize, blocks: usize, pages: usize) -> Shape {
-        Shape {
-            banks,
-            blocks,
-            pages,
-        }
-    }
 
     // What formatting answers over so many bytes, and whether it left every byte;
     // none where there are more than there is room for here.
@@ -26,22 +18,18 @@ mod tests {
             return None;
         }
         let answer = CardImage::format(shape, 3, &mut room[..length]);
-        let mut left = true;
-        for byte in &room {
-            left = left && *byte == OLD;
-        }
-        Some((answer, left))
+        Some((answer, room.iter().all(|byte| *byte == OLD)))
     }
 
     // The least shape, and the most of each number.
     #[test]
     fn sizes_that_fit(rt: HostRuntime) {
         for (it, length) in [
-            (shape(1, 1, 1), 2060),
-            (shape(16, 1, 1), 32_870),
-            (shape(1, 64, 1), 131_462),
-            (shape(1, 1, 64), 131_210),
-            (shape(2, 3, 2), 24_630),
+            (Shape::new(1, 1, 1), 2060),
+            (Shape::new(16, 1, 1), 32_870),
+            (Shape::new(1, 64, 1), 131_462),
+            (Shape::new(1, 1, 64), 131_210),
+            (Shape::new(2, 3, 2), 24_630),
         ] {
             assert!(rt; formatted(it, length) == Some((true, false)));
         }
@@ -51,17 +39,17 @@ mod tests {
     #[test]
     fn sizes_that_do_not_fit(rt: HostRuntime) {
         for (it, length) in [
-            (shape(0, 1, 1), 6),
-            (shape(1, 0, 1), 6),
-            (shape(1, 1, 0), 10),
-            (shape(17, 1, 1), 34_924),
-            (shape(1, 65, 1), 133_516),
-            (shape(1, 1, 65), 133_260),
-            (shape(1, 1, 1), 2059),
-            (shape(1, 1, 1), 2061),
-            (shape(2, 2, 2), 16_421),
-            (shape(2, 2, 2), 16_423),
-            (shape(1, 1, 1), 0),
+            (Shape::new(0, 1, 1), 6),
+            (Shape::new(1, 0, 1), 6),
+            (Shape::new(1, 1, 0), 10),
+            (Shape::new(17, 1, 1), 34_924),
+            (Shape::new(1, 65, 1), 133_516),
+            (Shape::new(1, 1, 65), 133_260),
+            (Shape::new(1, 1, 1), 2059),
+            (Shape::new(1, 1, 1), 2061),
+            (Shape::new(2, 2, 2), 16_421),
+            (Shape::new(2, 2, 2), 16_423),
+            (Shape::new(1, 1, 1), 0),
         ] {
             assert!(rt; formatted(it, length) == Some((false, true)));
         }
@@ -71,7 +59,7 @@ mod tests {
     #[test]
     fn least(rt: HostRuntime) {
         let mut bytes = [OLD; 2060];
-        assert!(rt; CardImage::format(shape(1, 1, 1), 500, &mut bytes));
+        assert!(rt; CardImage::format(Shape::new(1, 1, 1), 500, &mut bytes));
         for (i, byte) in bytes.iter().enumerate() {
             let expected = match i {
                 0 => 0x43,
@@ -85,14 +73,14 @@ mod tests {
             };
             assert!(rt; *byte == expected);
         }
-        assert!(rt; CardImage::open(&mut bytes).shape() == shape(1, 1, 1));
+        assert!(rt; CardImage::open(&mut bytes).shape() == Shape::new(1, 1, 1));
     }
 
     // Every byte of an image whose numbers differ: 2 banks of 3 blocks of 4 pages. A block has 8,204 bytes.
     #[test]
     fn every_block(rt: HostRuntime) {
         let mut bytes = [OLD; 49_230];
-        assert!(rt; CardImage::format(shape(2, 3, 4), 0x1234, &mut bytes));
+        assert!(rt; CardImage::format(Shape::new(2, 3, 4), 0x1234, &mut bytes));
         assert!(rt; bytes[0] == 0x43 && bytes[1] == 0x49 && bytes[2] == 0x01);
         assert!(rt; bytes[3] == 2 && bytes[4] == 3 && bytes[5] == 4);
         for (i, byte) in bytes.iter().skip(6).enumerate() {
@@ -110,9 +98,9 @@ mod tests {
     // An image of 2 banks of 2 blocks of 2 pages, in which the first page of the second block stands. A block has 4,104 bytes.
     fn sample() -> [u8; 16_422] {
         let mut bytes = [OLD; 16_422];
-        if CardImage::format(shape(2, 2, 2), 3, &mut bytes) {
+        if CardImage::format(Shape::new(2, 2, 2), 3, &mut bytes) {
             let mut image = CardImage::open(&mut bytes);
-            let _ = image.program(0, 1, 0, &[OLD; 2048]);
+            let _ = image.program(BlockAddress::new(0, 1), 0, &[OLD; 2048]);
         }
         bytes
     }
@@ -157,7 +145,7 @@ mod tests {
             (10 + 2050, 0x50, 0x47),
             (10 + 3 * 4104 + 2050, 0x50, 0x47),
         ] {
-            assert!(rt; damaged(place, low, high) == Some(shape(0, 0, 0)));
+            assert!(rt; damaged(place, low, high) == Some(NO_BANKS));
         }
     }
 
@@ -179,7 +167,7 @@ mod tests {
             (12, 0x50, 0x47),
             (16_420, 0, 0),
         ] {
-            assert!(rt; damaged(place, low, high) == Some(shape(2, 2, 2)));
+            assert!(rt; damaged(place, low, high) == Some(Shape::new(2, 2, 2)));
         }
     }
 
@@ -198,9 +186,9 @@ mod tests {
     // An image that is cut off anywhere, or goes on after its end, shows no banks.
     #[test]
     fn lengths(rt: HostRuntime) {
-        assert!(rt; cut(16_422) == Some(shape(2, 2, 2)));
+        assert!(rt; cut(16_422) == Some(Shape::new(2, 2, 2)));
         for length in [0, 1, 5, 6, 7, 4110, 16_421, 16_423] {
-            assert!(rt; cut(length) == Some(shape(0, 0, 0)));
+            assert!(rt; cut(length) == Some(NO_BANKS));
         }
     }
 
@@ -210,11 +198,13 @@ mod tests {
         let mut bytes = [OLD; 2060];
         let mut buffer = [OLD; 512];
         let mut image = CardImage::open(&mut bytes);
-        assert!(rt; image.standing(0, 0) == None);
-        assert!(rt; image.lives(0, 0) == None);
-        assert!(rt; image.program(0, 0, 0, &[0; 2048]) == Err(Refusal::Outside));
-        assert!(rt; image.read(0, 0, 0, 0, &mut buffer) == Err(Refusal::Outside));
-        assert!(rt; image.erase(0, 0) == Err(Refusal::Outside));
+        assert!(rt; image.standing(BlockAddress::new(0, 0)) == None);
+        assert!(rt; image.lives(BlockAddress::new(0, 0)) == None);
+        assert!(rt; image.program(BlockAddress::new(0, 0), 0, &[0; 2048]) == Err(Refusal::Outside));
+        assert!(rt;
+            image.read(BlockAddress::new(0, 0), 0, 0, &mut buffer) == Err(Refusal::Outside)
+        );
+        assert!(rt; image.erase(BlockAddress::new(0, 0)) == Err(Refusal::Outside));
         for byte in &bytes {
             assert!(rt; *byte == OLD);
         }
@@ -226,24 +216,26 @@ mod tests {
         let mut bytes = sample();
         let mut buffer = [0u8; 512];
         let mut image = CardImage::open(&mut bytes);
-        assert!(rt; image.standing(0, 1) == Some(1));
-        assert!(rt; image.program(0, 1, 2, &[1; 2047]) == Err(Refusal::Outside));
-        assert!(rt; image.program(0, 1, 0, &[1; 2047]) == Err(Refusal::Length));
-        assert!(rt; image.program(0, 1, 0, &[1; 2048]) == Err(Refusal::Order));
-        assert!(rt; image.read(0, 1, 1, 4, &mut buffer) == Err(Refusal::Outside));
-        assert!(rt; image.read(0, 1, 1, 3, &mut buffer) == Err(Refusal::Blank));
-        assert!(rt; image.program(0, 1, 1, &[1; 2048]) == Ok(()));
-        assert!(rt; image.read(0, 1, 1, 3, &mut buffer) == Ok(()));
+        assert!(rt; image.standing(BlockAddress::new(0, 1)) == Some(1));
+        assert!(rt; image.program(BlockAddress::new(0, 1), 2, &[1; 2047]) == Err(Refusal::Outside));
+        assert!(rt; image.program(BlockAddress::new(0, 1), 0, &[1; 2047]) == Err(Refusal::Length));
+        assert!(rt; image.program(BlockAddress::new(0, 1), 0, &[1; 2048]) == Err(Refusal::Order));
+        assert!(rt;
+            image.read(BlockAddress::new(0, 1), 1, 4, &mut buffer) == Err(Refusal::Outside)
+        );
+        assert!(rt; image.read(BlockAddress::new(0, 1), 1, 3, &mut buffer) == Err(Refusal::Blank));
+        assert!(rt; image.program(BlockAddress::new(0, 1), 1, &[1; 2048]) == Ok(()));
+        assert!(rt; image.read(BlockAddress::new(0, 1), 1, 3, &mut buffer) == Ok(()));
         for byte in buffer {
             assert!(rt; byte == 1);
         }
         for lives in [2, 1, 0] {
-            assert!(rt; image.erase(0, 1) == Ok(()));
-            assert!(rt; image.standing(0, 1) == Some(0));
-            assert!(rt; image.lives(0, 1) == Some(lives));
+            assert!(rt; image.erase(BlockAddress::new(0, 1)) == Ok(()));
+            assert!(rt; image.standing(BlockAddress::new(0, 1)) == Some(0));
+            assert!(rt; image.lives(BlockAddress::new(0, 1)) == Some(lives));
         }
-        assert!(rt; image.erase(0, 1) == Err(Refusal::Worn));
-        assert!(rt; image.lives(0, 0) == Some(3));
+        assert!(rt; image.erase(BlockAddress::new(0, 1)) == Err(Refusal::Worn));
+        assert!(rt; image.lives(BlockAddress::new(0, 0)) == Some(3));
         // The erased block's pages are FF again, with their marks.
         for byte in bytes.iter().skip(6 + 4104 + 4).take(4100) {
             assert!(rt; *byte == 0xFF);
@@ -253,16 +245,16 @@ mod tests {
     // The largest shape: 16 banks of 64 blocks of 64 pages.
     #[test]
     fn largest(rt: HostRuntime) -> Result<(), Fail> {
-        let most = shape(16, 64, 64);
+        let most = Shape::new(16, 64, 64);
         let mut bytes = vec![in rt.alloc(); OLD; 134_352_902]?;
         assert!(rt; CardImage::format(most, 65_535, bytes.as_mut_slice()));
         let mut image = CardImage::open(bytes.as_mut_slice());
         assert!(rt; image.shape() == most);
-        assert!(rt; image.lives(15, 63) == Some(65_535));
-        assert!(rt; image.program(15, 63, 0, &[OLD; 2048]) == Ok(()));
-        assert!(rt; image.standing(15, 63) == Some(1));
-        assert!(rt; image.erase(15, 63) == Ok(()));
-        assert!(rt; image.lives(15, 63) == Some(65_534));
+        assert!(rt; image.lives(BlockAddress::new(15, 63)) == Some(65_535));
+        assert!(rt; image.program(BlockAddress::new(15, 63), 0, &[OLD; 2048]) == Ok(()));
+        assert!(rt; image.standing(BlockAddress::new(15, 63)) == Some(1));
+        assert!(rt; image.erase(BlockAddress::new(15, 63)) == Ok(()));
+        assert!(rt; image.lives(BlockAddress::new(15, 63)) == Some(65_534));
         Ok(())
     }
 }
