@@ -10,12 +10,8 @@ mod tests {
     use layers::pair::Pair;
     use layers::replacer::Replacer;
     use layers::whitener::Whitener;
+    use std::alloc::{AllocError, Global};
     use zones::{Card, CardRefusal, Done, State, ZoneReport};
-
-    const BLANK: BlockRecord = BlockRecord {
-        standing: 0,
-        lives: 3,
-    };
 
     // A line that no card reports.
     const UNTOUCHED: ZoneReport = ZoneReport {
@@ -32,31 +28,23 @@ mod tests {
         }
     }
 
-    // Records of blank blocks, but for one with so many standing pages.
-    fn with_record(i: usize, standing: u8) -> [BlockRecord; 80] {
-        let mut records = [BLANK; 80];
-        if i < 80 {
-            records[i] = BlockRecord { standing, lives: 3 };
-        }
-        records
-    }
-
     // What forming answers on a new chip of one page to a block, over so many records, of which the last has so many
-    // standing pages. It takes 1 to 80 records.
+    // standing pages.
     fn formed(
+        heap: Global,
         (banks, blocks, records): (usize, usize, usize),
         last: u8,
         limit: usize,
         width: usize,
-    ) -> Option<Result<Done, CardRefusal>> {
-        if records == 0 || records > 80 {
-            return None;
+    ) -> Result<Result<Done, CardRefusal>, AllocError> {
+        let mut bytes = vec![in heap; 0u8; records.saturating_mul(2048)]?;
+        let mut records = vec![in heap; BlockRecord::blank(3); records]?;
+        if let Some(record) = records.last_mut() {
+            record.standing = last;
         }
-        let mut bytes = [0u8; 163_840];
-        let mut kept = with_record(records - 1, last);
         let shape = Shape::new(banks, blocks, 1);
-        let chip = BareChip::new(shape, &mut bytes[0..records * 2048], &mut kept[0..records]);
-        Some(Card::new(chip).form(limit, width))
+        let chip = BareChip::new(shape, bytes.as_mut_slice(), records.as_mut_slice());
+        Ok(Card::new(chip).form(limit, width))
     }
 
     #[test]
@@ -69,7 +57,10 @@ mod tests {
             ((12, 5, 60), 1, 4),
             ((8, 2, 16), 1, 8),
         ] {
-            assert_eq!(rt; formed(chip, 0, limit, width), Some(Ok(Done::default())));
+            assert_eq!(rt;
+                formed(rt.alloc(), chip, 0, limit, width),
+                Ok(Ok(Done::default()))
+            );
         }
     }
 
@@ -91,8 +82,8 @@ mod tests {
             ((16, 5, 80), 1, 1),
         ] {
             assert_eq!(rt;
-                formed(chip, 0, limit, width),
-                Some(Err(CardRefusal::Shape))
+                formed(rt.alloc(), chip, 0, limit, width),
+                Ok(Err(CardRefusal::Shape))
             );
         }
     }
@@ -101,20 +92,23 @@ mod tests {
     #[test]
     fn refuses_standing_pages(rt: HostRuntime) {
         assert_eq!(rt;
-            formed((2, 5, 10), 1, 2, 2),
-            Some(Err(CardRefusal::Printed))
+            formed(rt.alloc(), (2, 5, 10), 1, 2, 2),
+            Ok(Err(CardRefusal::Printed))
         );
         assert_eq!(rt;
-            formed((16, 4, 64), 1, 1, 1),
-            Some(Err(CardRefusal::Printed))
+            formed(rt.alloc(), (16, 4, 64), 1, 1, 1),
+            Ok(Err(CardRefusal::Printed))
         );
-        assert_eq!(rt; formed((2, 5, 10), 1, 5, 2), Some(Err(CardRefusal::Shape)));
+        assert_eq!(rt;
+            formed(rt.alloc(), (2, 5, 10), 1, 5, 2),
+            Ok(Err(CardRefusal::Shape))
+        );
     }
 
     #[test]
     fn reports(rt: HostRuntime) {
         let mut bytes = [0u8; 49_152];
-        let mut records = [BLANK; 12];
+        let mut records = [BlockRecord::blank(3); 12];
         let shape = Shape::new(2, 6, 2);
         let mut card = Card::new(BareChip::new(shape, &mut bytes, &mut records));
         let mut list = [UNTOUCHED; 4];
@@ -142,7 +136,7 @@ mod tests {
     fn forms_over_a_stack(rt: HostRuntime) {
         let one_bank = Shape::new(1, 8, 2);
         let mut bytes = [0u8; 32_768];
-        let mut records = [BLANK; 8];
+        let mut records = [BlockRecord::blank(3); 8];
         let mut image = [0u8; 32_838];
         assert!(rt; CardImage::format(one_bank, 3, &mut image));
         let chip = BareChip::new(one_bank, &mut bytes, &mut records);

@@ -6,40 +6,34 @@ mod tests {
     use chips::bare::BareChip;
     use chips::record::BlockRecord;
     use flash::{BlockAddress, Flash, NO_BANKS, Refusal, Shape};
+    use std::alloc::{AllocError, Global};
     use std::array;
-
-    // A block that no page was programmed in, and that can take two erases.
-    const FRESH: BlockRecord = BlockRecord {
-        standing: 0,
-        lives: 2,
-    };
 
     // A page whose quarters are of the bytes `first`, `first + 1`, `first + 2` and `first + 3`.
     fn page(first: u8) -> [u8; 2048] {
         array::from_fn(|i| first.wrapping_add((i / 512 % 4) as u8))
     }
 
-    // What a chip of this shape shows over so many bytes and records, the last of which counts `last` standing pages;
-    // none where that is more than there is room for here.
-    fn shown(shape: Shape, bytes: usize, records: usize, last: u8) -> Option<Shape> {
-        let mut room = [0u8; 133_120];
-        let mut kept = [FRESH; 65];
-        if bytes > room.len() || records > kept.len() {
-            return None;
-        }
-        if records > 0 {
-            kept[records - 1] = BlockRecord {
+    // What a chip of this shape shows over so many bytes and records, the last of which counts `last` standing pages.
+    fn shown(
+        heap: Global,
+        (shape, bytes, records, last): (Shape, usize, usize, u8),
+    ) -> Result<Shape, AllocError> {
+        let mut bytes = vec![in heap; 0u8; bytes]?;
+        let mut records = vec![in heap; BlockRecord::blank(2); records]?;
+        if let Some(record) = records.last_mut() {
+            *record = BlockRecord {
                 standing: last,
                 lives: 0,
             };
         }
-        Some(BareChip::new(shape, &mut room[..bytes], &mut kept[..records]).shape())
+        Ok(BareChip::new(shape, bytes.as_mut_slice(), records.as_mut_slice()).shape())
     }
 
     // The least shape, the most of each number, and blocks that are full.
     #[test]
     fn shapes_that_fit(rt: HostRuntime) {
-        for (it, bytes, records, last) in [
+        for case in [
             (Shape::new(1, 1, 1), 2048, 1, 0),
             (Shape::new(1, 1, 1), 2048, 1, 1),
             (Shape::new(16, 1, 1), 32_768, 16, 1),
@@ -47,7 +41,7 @@ mod tests {
             (Shape::new(1, 1, 64), 131_072, 1, 64),
             (Shape::new(2, 2, 2), 16_384, 4, 2),
         ] {
-            assert!(rt; shown(it, bytes, records, last) == Some(it));
+            assert_eq!(rt; shown(rt.alloc(), case), Ok(case.0));
         }
     }
 
@@ -55,7 +49,7 @@ mod tests {
     // and a record that counts more standing pages than a block has.
     #[test]
     fn shapes_that_do_not_fit(rt: HostRuntime) {
-        for (it, bytes, records, last) in [
+        for case in [
             (Shape::new(0, 1, 1), 0, 0, 0),
             (Shape::new(1, 0, 1), 0, 0, 0),
             (Shape::new(1, 1, 0), 0, 1, 0),
@@ -68,7 +62,7 @@ mod tests {
             (Shape::new(2, 2, 2), 16_384, 5, 0),
             (Shape::new(2, 2, 2), 16_384, 4, 3),
         ] {
-            assert!(rt; shown(it, bytes, records, last) == Some(NO_BANKS));
+            assert_eq!(rt; shown(rt.alloc(), case), Ok(NO_BANKS));
         }
     }
 
@@ -76,21 +70,22 @@ mod tests {
     #[test]
     fn no_banks(rt: HostRuntime) {
         let mut bytes = page(0);
-        let mut records = [FRESH; 2];
+        let mut records = [BlockRecord::blank(2); 2];
         let mut buffer = [0u8; 512];
+        let at = BlockAddress::new(0, 0);
         let mut chip = BareChip::new(Shape::new(1, 1, 1), &mut bytes, &mut records);
-        assert!(rt; chip.standing(BlockAddress::new(0, 0)) == None);
-        assert!(rt; chip.lives(BlockAddress::new(0, 0)) == None);
-        assert!(rt; chip.program(BlockAddress::new(0, 0), 0, &page(1)) == Err(Refusal::Outside));
-        assert!(rt; chip.read(BlockAddress::new(0, 0), 0, 0, &mut buffer) == Err(Refusal::Outside));
-        assert!(rt; chip.erase(BlockAddress::new(0, 0)) == Err(Refusal::Outside));
+        assert_eq!(rt; chip.standing(at), None);
+        assert_eq!(rt; chip.lives(at), None);
+        assert_eq!(rt; chip.program(at, 0, &page(1)), Err(Refusal::Outside));
+        assert_eq!(rt; chip.read(at, 0, 0, &mut buffer), Err(Refusal::Outside));
+        assert_eq!(rt; chip.erase(at), Err(Refusal::Outside));
     }
 
     // Programs in turn, on 2 banks of 2 blocks of 2 pages: the first refusal that applies is the answer.
     #[test]
     fn programs(rt: HostRuntime) {
         let mut bytes = [0u8; 16_384];
-        let mut records = [FRESH; 4];
+        let mut records = [BlockRecord::blank(2); 4];
         let mut chip = BareChip::new(Shape::new(2, 2, 2), &mut bytes, &mut records);
         let long = [9u8; 2049];
         for (bank, block, page, length, answer) in [
@@ -108,12 +103,10 @@ mod tests {
             (1, 0, 0, 2048, Ok(())),
         ] {
             let length: usize = length;
-            assert!(rt;
-                chip.program(
-                    BlockAddress::new(bank, block),
-                    page,
-                    &long[..length.min(2049)]
-                ) == answer
+            let bytes = &long[..length.min(2049)];
+            assert_eq!(rt;
+                chip.program(BlockAddress::new(bank, block), page, bytes),
+                answer
             );
         }
         for (bank, block, standing) in [
@@ -124,7 +117,7 @@ mod tests {
             (2, 0, None),
             (0, 2, None),
         ] {
-            assert!(rt; chip.standing(BlockAddress::new(bank, block)) == standing);
+            assert_eq!(rt; chip.standing(BlockAddress::new(bank, block)), standing);
         }
     }
 
@@ -132,11 +125,11 @@ mod tests {
     #[test]
     fn reads(rt: HostRuntime) {
         let mut bytes = [0u8; 8192];
-        let mut records = [FRESH; 2];
+        let mut records = [BlockRecord::blank(2); 2];
         let mut chip = BareChip::new(Shape::new(1, 2, 2), &mut bytes, &mut records);
-        assert!(rt; chip.program(BlockAddress::new(0, 1), 0, &page(10)) == Ok(()));
-        assert!(rt; chip.program(BlockAddress::new(0, 1), 1, &page(20)) == Ok(()));
-        assert!(rt; chip.program(BlockAddress::new(0, 0), 0, &page(30)) == Ok(()));
+        assert_eq!(rt; chip.program(BlockAddress::new(0, 1), 0, &page(10)), Ok(()));
+        assert_eq!(rt; chip.program(BlockAddress::new(0, 1), 1, &page(20)), Ok(()));
+        assert_eq!(rt; chip.program(BlockAddress::new(0, 0), 0, &page(30)), Ok(()));
         for (block, page, quarter, length, answer, byte) in [
             (1, 0, 0, 512, Ok(()), 10),
             (1, 0, 3, 512, Ok(()), 13),
@@ -150,16 +143,13 @@ mod tests {
             (0, 1, 0, 512, Err(Refusal::Blank), 99),
         ] {
             let length: usize = length;
-            let mut buffer = [99u8; 513];
-            assert!(rt;
-                chip.read(
-                    BlockAddress::new(0, block),
-                    page,
-                    quarter,
-                    &mut buffer[..length.min(513)]
-                ) == answer
+            let mut room = [99u8; 513];
+            let buffer = &mut room[..length.min(513)];
+            assert_eq!(rt;
+                chip.read(BlockAddress::new(0, block), page, quarter, buffer),
+                answer
             );
-            assert!(rt; buffer[0] == byte && buffer[510] == byte && buffer[512] == 99);
+            assert!(rt; room[0] == byte && room[510] == byte && room[512] == 99);
         }
     }
 
@@ -167,48 +157,48 @@ mod tests {
     #[test]
     fn erases(rt: HostRuntime) {
         let mut bytes = [0u8; 4096];
-        let mut records = [FRESH; 2];
+        let mut records = [BlockRecord::blank(2); 2];
         let mut chip = BareChip::new(Shape::new(1, 2, 1), &mut bytes, &mut records);
-        assert!(rt; chip.program(BlockAddress::new(0, 0), 0, &page(40)) == Ok(()));
-        assert!(rt; chip.program(BlockAddress::new(0, 1), 0, &page(50)) == Ok(()));
+        let first = BlockAddress::new(0, 0);
+        let second = BlockAddress::new(0, 1);
+        assert_eq!(rt; chip.program(first, 0, &page(40)), Ok(()));
+        assert_eq!(rt; chip.program(second, 0, &page(50)), Ok(()));
         for (block, answer, lives) in [
             (2, Err(Refusal::Outside), None),
             (1, Ok(()), Some(1)),
             (1, Ok(()), Some(0)),
             (1, Err(Refusal::Worn), Some(0)),
         ] {
-            assert!(rt; chip.erase(BlockAddress::new(0, block)) == answer);
-            assert!(rt; chip.lives(BlockAddress::new(0, block)) == lives);
+            assert_eq!(rt; chip.erase(BlockAddress::new(0, block)), answer);
+            assert_eq!(rt; chip.lives(BlockAddress::new(0, block)), lives);
         }
-        assert!(rt;
-            chip.lives(BlockAddress::new(0, 0)) == Some(2)
-                && chip.standing(BlockAddress::new(0, 0)) == Some(1)
-        );
-        assert!(rt; chip.standing(BlockAddress::new(0, 1)) == Some(0));
-        assert!(rt; chip.program(BlockAddress::new(0, 0), 0, &page(60)) == Err(Refusal::Order));
+        assert!(rt; chip.lives(first) == Some(2) && chip.standing(first) == Some(1));
+        assert_eq!(rt; chip.standing(second), Some(0));
+        assert_eq!(rt; chip.program(first, 0, &page(60)), Err(Refusal::Order));
         assert!(rt; bytes[0] == 40 && bytes[2048] == 50 && bytes[4095] == 53);
-        assert!(rt; records[0].standing == 1 && records[0].lives == 2);
-        assert!(rt; records[1].standing == 0 && records[1].lives == 0);
+        let worked = BlockRecord {
+            standing: 1,
+            lives: 2,
+        };
+        assert_eq!(rt; records, [worked, BlockRecord::blank(0)]);
     }
 
     // The least chip, through a whole life.
     #[test]
     fn least(rt: HostRuntime) {
         let mut bytes = [0u8; 2048];
-        let mut records = [BlockRecord {
-            standing: 0,
-            lives: 1,
-        }];
+        let mut records = [BlockRecord::blank(1)];
         let mut buffer = [0u8; 512];
+        let at = BlockAddress::new(0, 0);
         let mut chip = BareChip::new(Shape::new(1, 1, 1), &mut bytes, &mut records);
-        assert!(rt; chip.read(BlockAddress::new(0, 0), 0, 0, &mut buffer) == Err(Refusal::Blank));
-        assert!(rt; chip.program(BlockAddress::new(0, 0), 0, &page(1)) == Ok(()));
-        assert!(rt; chip.erase(BlockAddress::new(0, 0)) == Ok(()));
-        assert!(rt; chip.read(BlockAddress::new(0, 0), 0, 0, &mut buffer) == Err(Refusal::Blank));
-        assert!(rt; chip.program(BlockAddress::new(0, 0), 0, &page(5)) == Ok(()));
-        assert!(rt; chip.read(BlockAddress::new(0, 0), 0, 3, &mut buffer) == Ok(()));
+        assert_eq!(rt; chip.read(at, 0, 0, &mut buffer), Err(Refusal::Blank));
+        assert_eq!(rt; chip.program(at, 0, &page(1)), Ok(()));
+        assert_eq!(rt; chip.erase(at), Ok(()));
+        assert_eq!(rt; chip.read(at, 0, 0, &mut buffer), Err(Refusal::Blank));
+        assert_eq!(rt; chip.program(at, 0, &page(5)), Ok(()));
+        assert_eq!(rt; chip.read(at, 0, 3, &mut buffer), Ok(()));
         assert!(rt; buffer[0] == 8 && buffer[511] == 8);
-        assert!(rt; chip.erase(BlockAddress::new(0, 0)) == Err(Refusal::Worn));
-        assert!(rt; chip.standing(BlockAddress::new(0, 0)) == Some(1));
+        assert_eq!(rt; chip.erase(at), Err(Refusal::Worn));
+        assert_eq!(rt; chip.standing(at), Some(1));
     }
 }

@@ -5,20 +5,17 @@
 mod tests {
     use chips::image::CardImage;
     use flash::{BlockAddress, Flash, NO_BANKS, Refusal, Shape};
+    use std::alloc::{AllocError, Global};
     use std::test::Fail;
 
     // A byte that no blank image has where these tests look.
     const OLD: u8 = 7;
 
-    // What formatting answers over so many bytes, and whether it left every byte;
-    // none where there are more than there is room for here.
-    fn formatted(shape: Shape, length: usize) -> Option<(bool, bool)> {
-        let mut room = [OLD; 133_520];
-        if length > room.len() {
-            return None;
-        }
-        let answer = CardImage::format(shape, 3, &mut room[..length]);
-        Some((answer, room.iter().all(|byte| *byte == OLD)))
+    // What formatting answers over so many bytes, and whether it left every byte.
+    fn formatted(heap: Global, shape: Shape, length: usize) -> Result<(bool, bool), AllocError> {
+        let mut bytes = vec![in heap; OLD; length]?;
+        let answer = CardImage::format(shape, 3, bytes.as_mut_slice());
+        Ok((answer, bytes.iter().all(|byte| *byte == OLD)))
     }
 
     // The least shape, and the most of each number.
@@ -31,7 +28,7 @@ mod tests {
             (Shape::new(1, 1, 64), 131_210),
             (Shape::new(2, 3, 2), 24_630),
         ] {
-            assert!(rt; formatted(it, length) == Some((true, false)));
+            assert_eq!(rt; formatted(rt.alloc(), it, length), Ok((true, false)));
         }
     }
 
@@ -51,7 +48,7 @@ mod tests {
             (Shape::new(2, 2, 2), 16_423),
             (Shape::new(1, 1, 1), 0),
         ] {
-            assert!(rt; formatted(it, length) == Some((false, true)));
+            assert_eq!(rt; formatted(rt.alloc(), it, length), Ok((false, true)));
         }
     }
 
@@ -81,17 +78,10 @@ mod tests {
     fn every_block(rt: HostRuntime) {
         let mut bytes = [OLD; 49_230];
         assert!(rt; CardImage::format(Shape::new(2, 3, 4), 0x1234, &mut bytes));
-        assert!(rt; bytes[0] == 0x43 && bytes[1] == 0x49 && bytes[2] == 0x01);
-        assert!(rt; bytes[3] == 2 && bytes[4] == 3 && bytes[5] == 4);
-        for (i, byte) in bytes.iter().skip(6).enumerate() {
-            let expected = match i % 8204 {
-                0 => 0x42,
-                1 => 0x4B,
-                2 => 0x34,
-                3 => 0x12,
-                _ => 0xFF,
-            };
-            assert!(rt; *byte == expected);
+        assert!(rt; bytes.starts_with(&[0x43, 0x49, 0x01, 2, 3, 4]));
+        for block in bytes[6..].chunks_exact(8204) {
+            assert!(rt; block.starts_with(&[0x42, 0x4B, 0x34, 0x12]));
+            assert!(rt; block[4..].iter().all(|byte| *byte == 0xFF));
         }
     }
 
@@ -145,7 +135,7 @@ mod tests {
             (10 + 2050, 0x50, 0x47),
             (10 + 3 * 4104 + 2050, 0x50, 0x47),
         ] {
-            assert!(rt; damaged(place, low, high) == Some(NO_BANKS));
+            assert_eq!(rt; damaged(place, low, high), Some(NO_BANKS));
         }
     }
 
@@ -167,28 +157,25 @@ mod tests {
             (12, 0x50, 0x47),
             (16_420, 0, 0),
         ] {
-            assert!(rt; damaged(place, low, high) == Some(Shape::new(2, 2, 2)));
+            assert_eq!(rt; damaged(place, low, high), Some(Shape::new(2, 2, 2)));
         }
     }
 
-    // What the first bytes of the sample show, with more after them if it is asked for more; none where that is too many.
-    fn cut(length: usize) -> Option<Shape> {
-        let mut room = [0xFFu8; 16_424];
-        for (byte, old) in room.iter_mut().zip(sample()) {
+    // What the first bytes of the sample show, with more after them if it is asked for more.
+    fn cut(heap: Global, length: usize) -> Result<Shape, AllocError> {
+        let mut bytes = vec![in heap; 0xFFu8; length]?;
+        for (byte, old) in bytes.iter_mut().zip(sample()) {
             *byte = old;
         }
-        if length > room.len() {
-            return None;
-        }
-        Some(CardImage::open(&mut room[..length]).shape())
+        Ok(CardImage::open(bytes.as_mut_slice()).shape())
     }
 
     // An image that is cut off anywhere, or goes on after its end, shows no banks.
     #[test]
     fn lengths(rt: HostRuntime) {
-        assert!(rt; cut(16_422) == Some(Shape::new(2, 2, 2)));
+        assert_eq!(rt; cut(rt.alloc(), 16_422), Ok(Shape::new(2, 2, 2)));
         for length in [0, 1, 5, 6, 7, 4110, 16_421, 16_423] {
-            assert!(rt; cut(length) == Some(NO_BANKS));
+            assert_eq!(rt; cut(rt.alloc(), length), Ok(NO_BANKS));
         }
     }
 
@@ -197,17 +184,14 @@ mod tests {
     fn no_banks(rt: HostRuntime) {
         let mut bytes = [OLD; 2060];
         let mut buffer = [OLD; 512];
+        let at = BlockAddress::new(0, 0);
         let mut image = CardImage::open(&mut bytes);
-        assert!(rt; image.standing(BlockAddress::new(0, 0)) == None);
-        assert!(rt; image.lives(BlockAddress::new(0, 0)) == None);
-        assert!(rt; image.program(BlockAddress::new(0, 0), 0, &[0; 2048]) == Err(Refusal::Outside));
-        assert!(rt;
-            image.read(BlockAddress::new(0, 0), 0, 0, &mut buffer) == Err(Refusal::Outside)
-        );
-        assert!(rt; image.erase(BlockAddress::new(0, 0)) == Err(Refusal::Outside));
-        for byte in &bytes {
-            assert!(rt; *byte == OLD);
-        }
+        assert_eq!(rt; image.standing(at), None);
+        assert_eq!(rt; image.lives(at), None);
+        assert!(rt; image.program(at, 0, &[0; 2048]) == Err(Refusal::Outside));
+        assert!(rt; image.read(at, 0, 0, &mut buffer) == Err(Refusal::Outside));
+        assert_eq!(rt; image.erase(at), Err(Refusal::Outside));
+        assert!(rt; bytes.iter().all(|byte| *byte == OLD));
     }
 
     // Calls on one block of the sample, each refusal before the ones that come after it.
@@ -215,46 +199,46 @@ mod tests {
     fn calls(rt: HostRuntime) {
         let mut bytes = sample();
         let mut buffer = [0u8; 512];
+        let at = BlockAddress::new(0, 1);
         let mut image = CardImage::open(&mut bytes);
-        assert!(rt; image.standing(BlockAddress::new(0, 1)) == Some(1));
-        assert!(rt; image.program(BlockAddress::new(0, 1), 2, &[1; 2047]) == Err(Refusal::Outside));
-        assert!(rt; image.program(BlockAddress::new(0, 1), 0, &[1; 2047]) == Err(Refusal::Length));
-        assert!(rt; image.program(BlockAddress::new(0, 1), 0, &[1; 2048]) == Err(Refusal::Order));
-        assert!(rt;
-            image.read(BlockAddress::new(0, 1), 1, 4, &mut buffer) == Err(Refusal::Outside)
-        );
-        assert!(rt; image.read(BlockAddress::new(0, 1), 1, 3, &mut buffer) == Err(Refusal::Blank));
-        assert!(rt; image.program(BlockAddress::new(0, 1), 1, &[1; 2048]) == Ok(()));
-        assert!(rt; image.read(BlockAddress::new(0, 1), 1, 3, &mut buffer) == Ok(()));
-        for byte in buffer {
-            assert!(rt; byte == 1);
-        }
+        assert_eq!(rt; image.standing(at), Some(1));
+        assert!(rt; image.program(at, 2, &[1; 2047]) == Err(Refusal::Outside));
+        assert!(rt; image.program(at, 0, &[1; 2047]) == Err(Refusal::Length));
+        assert!(rt; image.program(at, 0, &[1; 2048]) == Err(Refusal::Order));
+        assert!(rt; image.read(at, 1, 4, &mut buffer) == Err(Refusal::Outside));
+        assert!(rt; image.read(at, 1, 3, &mut buffer) == Err(Refusal::Blank));
+        assert!(rt; image.program(at, 1, &[1; 2048]) == Ok(()));
+        assert!(rt; image.read(at, 1, 3, &mut buffer) == Ok(()));
+        assert_eq!(rt; buffer, [1; 512]);
         for lives in [2, 1, 0] {
-            assert!(rt; image.erase(BlockAddress::new(0, 1)) == Ok(()));
-            assert!(rt; image.standing(BlockAddress::new(0, 1)) == Some(0));
-            assert!(rt; image.lives(BlockAddress::new(0, 1)) == Some(lives));
+            assert_eq!(rt; image.erase(at), Ok(()));
+            assert_eq!(rt; image.standing(at), Some(0));
+            assert_eq!(rt; image.lives(at), Some(lives));
         }
-        assert!(rt; image.erase(BlockAddress::new(0, 1)) == Err(Refusal::Worn));
-        assert!(rt; image.lives(BlockAddress::new(0, 0)) == Some(3));
+        assert_eq!(rt; image.erase(at), Err(Refusal::Worn));
+        assert_eq!(rt; image.lives(BlockAddress::new(0, 0)), Some(3));
         // The erased block's pages are FF again, with their marks.
-        for byte in bytes.iter().skip(6 + 4104 + 4).take(4100) {
-            assert!(rt; *byte == 0xFF);
-        }
+        assert!(rt;
+            bytes[6 + 4104 + 4..6 + 2 * 4104]
+                .iter()
+                .all(|byte| *byte == 0xFF)
+        );
     }
 
     // The largest shape: 16 banks of 64 blocks of 64 pages.
     #[test]
     fn largest(rt: HostRuntime) -> Result<(), Fail> {
         let most = Shape::new(16, 64, 64);
+        let last = BlockAddress::new(15, 63);
         let mut bytes = vec![in rt.alloc(); OLD; 134_352_902]?;
         assert!(rt; CardImage::format(most, 65_535, bytes.as_mut_slice()));
         let mut image = CardImage::open(bytes.as_mut_slice());
         assert!(rt; image.shape() == most);
-        assert!(rt; image.lives(BlockAddress::new(15, 63)) == Some(65_535));
-        assert!(rt; image.program(BlockAddress::new(15, 63), 0, &[OLD; 2048]) == Ok(()));
-        assert!(rt; image.standing(BlockAddress::new(15, 63)) == Some(1));
-        assert!(rt; image.erase(BlockAddress::new(15, 63)) == Ok(()));
-        assert!(rt; image.lives(BlockAddress::new(15, 63)) == Some(65_534));
+        assert_eq!(rt; image.lives(last), Some(65_535));
+        assert!(rt; image.program(last, 0, &[OLD; 2048]) == Ok(()));
+        assert_eq!(rt; image.standing(last), Some(1));
+        assert_eq!(rt; image.erase(last), Ok(()));
+        assert_eq!(rt; image.lives(last), Some(65_534));
         Ok(())
     }
 }

@@ -13,12 +13,6 @@ mod tests {
     use std::alloc::{AllocError, Global};
     use std::array;
 
-    // A block that no page was programmed in, and that can take three erases.
-    const FRESH: BlockRecord = BlockRecord {
-        standing: 0,
-        lives: 3,
-    };
-
     // A byte that tells where it belongs: one number for each bank, block, page and quarter.
     fn print(at: BlockAddress, page: usize, quarter: usize) -> u8 {
         ((at.bank % 4 * 64 + at.block % 8 * 8 + page % 2 * 4 + quarter % 4) % 256) as u8
@@ -29,23 +23,30 @@ mod tests {
         array::from_fn(|i| print(at, page, i / 512))
     }
 
-    // What a pair of bare chips of these shapes shows, each over all the memory that it needs;
-    // none where that is more than there is room for here.
-    fn paired(first: Shape, second: Shape) -> Option<Shape> {
-        let mut bytes = [0u8; 65_536];
-        let mut records = [FRESH; 32];
-        let mut more_bytes = [0u8; 65_536];
-        let mut more_records = [FRESH; 32];
-        let n = first.banks.saturating_mul(first.blocks);
-        let m = second.banks.saturating_mul(second.blocks);
-        let long = n.saturating_mul(first.pages).saturating_mul(2048);
-        let more_long = m.saturating_mul(second.pages).saturating_mul(2048);
-        if n > 32 || m > 32 || long > 65_536 || more_long > 65_536 {
-            return None;
-        }
-        let chip = BareChip::new(first, &mut bytes[..long], &mut records[..n]);
-        let more = BareChip::new(second, &mut more_bytes[..more_long], &mut more_records[..m]);
-        Some(Pair::new(chip, more).shape())
+    // How many blocks a flash of this shape has in all banks.
+    fn blocks(shape: Shape) -> usize {
+        shape.banks.saturating_mul(shape.blocks)
+    }
+
+    // The page bytes and the records of a blank chip of this shape.
+    fn memory(heap: Global, shape: Shape) -> Result<(Vec<u8>, Vec<BlockRecord>), AllocError> {
+        let pages = blocks(shape).saturating_mul(shape.pages);
+        let bytes = vec![in heap; 0u8; pages.saturating_mul(2048)]?;
+        let records = vec![in heap; BlockRecord::blank(3); blocks(shape)]?;
+        Ok((bytes, records))
+    }
+
+    // What a pair of bare chips of these shapes shows, each over all the memory that it needs.
+    fn paired(heap: Global, first: Shape, second: Shape) -> Result<Shape, AllocError> {
+        let (mut bytes, mut records) = memory(heap, first)?;
+        let (mut more_bytes, mut more_records) = memory(heap, second)?;
+        let chip = BareChip::new(first, bytes.as_mut_slice(), records.as_mut_slice());
+        let more = BareChip::new(
+            second,
+            more_bytes.as_mut_slice(),
+            more_records.as_mut_slice(),
+        );
+        Ok(Pair::new(chip, more).shape())
     }
 
     // Sixteen banks together are shown, and seventeen are not; nor are two chips with other blocks or pages,
@@ -69,68 +70,86 @@ mod tests {
             (Shape::new(1, 2, 2), Shape::new(0, 2, 2), NO_BANKS),
             (Shape::new(0, 2, 2), Shape::new(1, 2, 2), NO_BANKS),
         ] {
-            assert!(rt; paired(first, second) == Some(shown));
+            assert_eq!(rt; paired(rt.alloc(), first, second), Ok(shown));
         }
     }
 
-    // What a replacer shows over a bare chip of 2 banks of 8 blocks of one page.
-    fn replaced<const N: usize>(spares: usize, bad: [(usize, usize); N]) -> Shape {
+    // What a replacer shows over a bare chip of this shape.
+    fn replaced<const N: usize>(
+        heap: Global,
+        shape: Shape,
+        spares: usize,
+        bad: [(usize, usize); N],
+    ) -> Result<Shape, AllocError> {
         let bad = bad.map(|(bank, block)| BlockAddress::new(bank, block));
-        let mut bytes = [0u8; 32_768];
-        let mut records = [FRESH; 16];
-        let chip = BareChip::new(Shape::new(2, 8, 1), &mut bytes, &mut records);
-        Replacer::new(chip, spares, &bad).shape()
+        let (mut bytes, mut records) = memory(heap, shape)?;
+        let chip = BareChip::new(shape, bytes.as_mut_slice(), records.as_mut_slice());
+        Ok(Replacer::new(chip, spares, &bad).shape())
     }
 
     // Each reason alone to show no banks: too many spares or no block beside them, a pair outside or repeated,
     // too few good spares in one bank.
     #[test]
     fn replacers(rt: HostRuntime) {
-        assert!(rt; replaced(0, []) == Shape::new(2, 8, 1));
-        assert!(rt; replaced(7, []) == Shape::new(2, 1, 1));
-        assert!(rt; replaced(8, []) == NO_BANKS);
-        assert!(rt; replaced(9, []) == NO_BANKS);
-        assert!(rt; replaced(2, [(0, 2), (0, 6)]) == Shape::new(2, 6, 1));
-        assert!(rt; replaced(2, [(0, 2), (0, 6), (1, 7), (1, 0)]) == Shape::new(2, 6, 1));
-        assert!(rt; replaced(2, [(2, 0)]) == NO_BANKS);
-        assert!(rt; replaced(2, [(0, 8)]) == NO_BANKS);
-        assert!(rt; replaced(2, [(0, 2), (1, 2), (0, 2)]) == NO_BANKS);
-        assert!(rt; replaced(2, [(0, 2), (0, 3), (0, 4)]) == NO_BANKS);
-        assert!(rt; replaced(2, [(1, 2), (1, 6), (1, 3)]) == NO_BANKS);
-        assert!(rt; replaced(0, [(1, 7)]) == NO_BANKS);
+        let below = Shape::new(2, 8, 1);
+        assert_eq!(rt; replaced(rt.alloc(), below, 0, []), Ok(Shape::new(2, 8, 1)));
+        assert_eq!(rt; replaced(rt.alloc(), below, 7, []), Ok(Shape::new(2, 1, 1)));
+        assert_eq!(rt; replaced(rt.alloc(), below, 8, []), Ok(NO_BANKS));
+        assert_eq!(rt; replaced(rt.alloc(), below, 9, []), Ok(NO_BANKS));
+        assert_eq!(rt;
+            replaced(rt.alloc(), below, 2, [(0, 2), (0, 6)]),
+            Ok(Shape::new(2, 6, 1))
+        );
+        assert_eq!(rt;
+            replaced(rt.alloc(), below, 2, [(0, 2), (0, 6), (1, 7), (1, 0)]),
+            Ok(Shape::new(2, 6, 1))
+        );
+        assert_eq!(rt; replaced(rt.alloc(), below, 2, [(2, 0)]), Ok(NO_BANKS));
+        assert_eq!(rt; replaced(rt.alloc(), below, 2, [(0, 8)]), Ok(NO_BANKS));
+        assert_eq!(rt;
+            replaced(rt.alloc(), below, 2, [(0, 2), (1, 2), (0, 2)]),
+            Ok(NO_BANKS)
+        );
+        assert_eq!(rt;
+            replaced(rt.alloc(), below, 2, [(0, 2), (0, 3), (0, 4)]),
+            Ok(NO_BANKS)
+        );
+        assert_eq!(rt;
+            replaced(rt.alloc(), below, 2, [(1, 2), (1, 6), (1, 3)]),
+            Ok(NO_BANKS)
+        );
+        assert_eq!(rt; replaced(rt.alloc(), below, 0, [(1, 7)]), Ok(NO_BANKS));
     }
 
     // So many different blocks: the first ones of 16 banks, then the second ones, and so on.
-    fn spread<const N: usize>() -> [BlockAddress; N] {
-        array::from_fn(|i| BlockAddress::new(i % 16, i / 16))
+    fn spread<const N: usize>() -> [(usize, usize); N] {
+        array::from_fn(|i| (i % 16, i / 16))
     }
 
-    // What a replacer shows over a bare chip of 16 banks of 16 blocks of one page.
-    fn replaced_of_many(
-        heap: Global,
-        spares: usize,
-        bad: &[BlockAddress],
-    ) -> Result<Shape, AllocError> {
-        let mut bytes = vec![in heap; 0u8; 524_288]?;
-        let mut records = [FRESH; 256];
-        let chip = BareChip::new(Shape::new(16, 16, 1), bytes.as_mut_slice(), &mut records);
-        Ok(Replacer::new(chip, spares, bad).shape())
-    }
-
-    // Eight spares at most, and 32 pairs at most.
+    // Eight spares at most, and 32 bad blocks at most.
     #[test]
     fn limits(rt: HostRuntime) {
-        assert!(rt; replaced_of_many(rt.alloc(), 8, &[]) == Ok(Shape::new(16, 8, 1)));
-        assert!(rt; replaced_of_many(rt.alloc(), 9, &[]) == Ok(NO_BANKS));
-        assert!(rt; replaced_of_many(rt.alloc(), 3, &spread::<32>()) == Ok(Shape::new(16, 13, 1)));
-        assert!(rt; replaced_of_many(rt.alloc(), 3, &spread::<33>()) == Ok(NO_BANKS));
+        let below = Shape::new(16, 16, 1);
+        assert_eq!(rt;
+            replaced(rt.alloc(), below, 8, []),
+            Ok(Shape::new(16, 8, 1))
+        );
+        assert_eq!(rt; replaced(rt.alloc(), below, 9, []), Ok(NO_BANKS));
+        assert_eq!(rt;
+            replaced(rt.alloc(), below, 3, spread::<32>()),
+            Ok(Shape::new(16, 13, 1))
+        );
+        assert_eq!(rt;
+            replaced(rt.alloc(), below, 3, spread::<33>()),
+            Ok(NO_BANKS)
+        );
     }
 
     // A byte that is stored by its position, page, block and bank, and read back as it was.
     #[test]
     fn whitener(rt: HostRuntime) {
         let mut bytes = [0u8; 49_152];
-        let mut records = [FRESH; 6];
+        let mut records = [BlockRecord::blank(3); 6];
         let mut buffer = [0u8; 512];
         let chip = BareChip::new(Shape::new(2, 3, 4), &mut bytes, &mut records);
         let mut flash = Whitener::new(chip);
@@ -150,57 +169,57 @@ mod tests {
     }
 
     // Whether a quarter reads back as it was printed.
-    fn reads_back<F: Flash>(flash: &F, at: BlockAddress, page: usize, quarter: usize) -> bool {
+    fn reads_back<F: Flash>(
+        flash: &F,
+        at: BlockAddress,
+        page: usize,
+        quarter: usize,
+    ) -> Result<bool, Refusal> {
         let mut buffer = [0u8; 512];
-        flash.read(at, page, quarter, &mut buffer) == Ok(())
-            && buffer.iter().all(|byte| *byte == print(at, page, quarter))
+        flash.read(at, page, quarter, &mut buffer)?;
+        Ok(buffer.iter().all(|byte| *byte == print(at, page, quarter)))
     }
 
-    // All pages of all blocks of a flash of 3 banks, 6 blocks and 2 pages are programmed, read back and compared.
-    fn fill<F: Flash>(flash: &mut F) -> bool {
-        for bank in 0..3 {
-            for block in 0..6 {
-                for page in 0..2 {
-                    let at = BlockAddress::new(bank, block);
-                    if flash.program(at, page, &printed(at, page)) != Ok(()) {
-                        return false;
-                    }
-                }
-            }
+    // Programs all pages of the blocks of a flash of 3 banks, 6 blocks and 2 pages, and tells whether all read back.
+    fn fill<F: Flash>(flash: &mut F) -> Result<bool, Refusal> {
+        let mut same = true;
+        for i in 0..36 {
+            let at = BlockAddress::new(i / 12, i / 2 % 6);
+            flash.program(at, i % 2, &printed(at, i % 2))?;
         }
-        for bank in 0..3 {
-            for block in 0..6 {
-                for page in 0..2 {
-                    for quarter in 0..4 {
-                        if !reads_back(flash, BlockAddress::new(bank, block), page, quarter) {
-                            return false;
-                        }
-                    }
-                }
-            }
+        for i in 0..144 {
+            let at = BlockAddress::new(i / 48, i / 8 % 6);
+            same &= reads_back(flash, at, i / 4 % 2, i % 4)?;
         }
-        true
+        Ok(same)
     }
 
-    // A whitener over a replacer over a pair of a bare chip and an image: written and read through, and erased in a block
-    // that is found elsewhere.
-    fn drive(bytes: &mut [u8], records: &mut [BlockRecord], image: &mut [u8]) -> bool {
+    // A whitener over a replacer over a pair of a bare chip and an image, written and read through, and erased in a block
+    // that is found elsewhere: whether all that is read is as it should be.
+    fn drive(
+        bytes: &mut [u8],
+        records: &mut [BlockRecord],
+        image: &mut [u8],
+    ) -> Result<bool, Refusal> {
         let chip = BareChip::new(Shape::new(1, 8, 2), bytes, records);
         let pair = Pair::new(chip, CardImage::open(image));
-        let bad = [(0, 2), (0, 6), (2, 0), (2, 5)].map(|(bank, block)| BlockAddress::new(
-            bank, block,
-        ));
+        let bad = [(0, 2), (0, 6), (2, 0), (2, 5)];
+        let bad = bad.map(|(bank, block)| BlockAddress::new(bank, block));
         let mut stack = Whitener::new(Replacer::new(pair, 2, &bad));
-        stack.shape() == Shape::new(3, 6, 2)
-            && fill(&mut stack)
-            && stack.standing(BlockAddress::new(2, 0)) == Some(2)
-            && stack.lives(BlockAddress::new(2, 0)) == Some(4)
-            && stack.erase(BlockAddress::new(2, 0)) == Ok(())
-            && stack.standing(BlockAddress::new(2, 0)) == Some(0)
-            && stack.lives(BlockAddress::new(2, 0)) == Some(3)
-            && stack.standing(BlockAddress::new(2, 6)) == None
-            && stack.lives(BlockAddress::new(3, 0)) == None
-            && stack.erase(BlockAddress::new(2, 6)) == Err(Refusal::Outside)
+        let at = BlockAddress::new(2, 0);
+        let filled = fill(&mut stack)?;
+        let before = (stack.standing(at), stack.lives(at));
+        stack.erase(at)?;
+        let after = (stack.standing(at), stack.lives(at));
+        Ok(
+            filled
+                && stack.shape() == Shape::new(3, 6, 2)
+                && before == (Some(2), Some(4))
+                && after == (Some(0), Some(3))
+                && stack.standing(BlockAddress::new(2, 6)) == None
+                && stack.lives(BlockAddress::new(3, 0)) == None
+                && stack.erase(BlockAddress::new(2, 6)) == Err(Refusal::Outside),
+        )
     }
 
     // Where a stack puts what goes through it: the bad blocks are never touched, a replaced block lies in its spare
@@ -208,38 +227,22 @@ mod tests {
     #[test]
     fn stack(rt: HostRuntime) {
         let mut bytes = [0u8; 32_768];
-        let mut records = [FRESH; 8];
+        let mut records = [BlockRecord::blank(3); 8];
         let mut image = [0u8; 65_670];
         assert!(rt; CardImage::format(Shape::new(2, 8, 2), 4, &mut image));
-        assert!(rt; drive(&mut bytes, &mut records, &mut image));
-        for (block, standing) in [
-            (0, 2),
-            (1, 2),
-            (2, 0),
-            (3, 2),
-            (4, 2),
-            (5, 2),
-            (6, 0),
-            (7, 2),
-        ] {
-            assert!(rt; records[block].standing == standing);
-        }
+        assert_eq!(rt; drive(&mut bytes, &mut records, &mut image), Ok(true));
+        assert_eq!(rt;
+            records.map(|record| record.standing),
+            [2, 2, 0, 2, 2, 2, 0, 2]
+        );
         // position 3 of page 1 of the shown block 2 of bank 0, which is found at 7
         assert!(rt; bytes[15 * 2048 + 3] == 20 ^ 242);
         let again = CardImage::open(&mut image);
         assert!(rt; again.shape() == Shape::new(2, 8, 2));
-        for (block, standing) in [
-            (0, 0),
-            (1, 2),
-            (2, 2),
-            (3, 2),
-            (4, 2),
-            (5, 0),
-            (6, 0),
-            (7, 2),
-        ] {
-            assert!(rt; again.standing(BlockAddress::new(1, block)) == Some(standing));
-        }
+        assert_eq!(rt;
+            array::from_fn(|block| again.standing(BlockAddress::new(1, block))),
+            [0, 2, 2, 2, 2, 0, 0, 2].map(Some)
+        );
         assert!(rt; again.lives(BlockAddress::new(1, 6)) == Some(3));
         assert!(rt; again.lives(BlockAddress::new(1, 7)) == Some(4));
     }
