@@ -1,5 +1,6 @@
 -- Tests of every number below a bound, and the list of those numbers.
-use Rattle.std.proofs.Common.{◌≡◌, ℕ, zero, suc, ◌+◌, ◌<◌, Bool, true, false, ◌||◌, [], ◌∷◌, ◌++◌, length, get_or, sym, refl, ap, ◌∙◌, ⊎_elim, add-one, arith}
+use Rattle.std.proofs.Common.{◌≡◌, ℕ, zero, suc, ◌+◌, ◌<◌, Bool, true, false, ◌||◌, [], ◌∷◌, ◌++◌, length, get_or, sym, refl, ap, ◌∙◌, ⊎_elim, zero-add, add-zero, add-one, arith}
+use Rattle.std.specs.List.{list_any, range_with_len}
 use Rattle.std.proofs.lemmas.List.{length-append, get_or_append_left, get_or_push}
 use Rattle.std.proofs.lemmas.Bool.{cases_eq, or_parts, or_left, or_right}
 use Rattle.flatcard.specs.Verbs.{any, range}
@@ -22,6 +23,27 @@ any_each zero p e i l = absurd (omega arith)
 any_each (suc n) p e i l =
     let both = or_parts (p n) (any n p) e in
     ⊎_elim (λ (h : i ≡ n). ap p h ∙ both.0) (λ (h : i ≡ n → ⊥). any_each n p both.1 i (omega arith)) (cases_eq i n)
+
+-- the test of the numbers in a row, from the front
+any_front : (n : ℕ) (p : ℕ → Bool) → any (suc n) p ≡ (p 0 || any n (λ i. p (suc i)))
+any_front zero p = refl
+any_front (suc n) p = ap (λ b. p (suc n) || b) (any_front n p) ∙ swapped (p (suc n)) (p 0) (any n (λ i. p (suc i)))
+  where
+    swapped : (a b c : Bool) → (a || (b || c)) ≡ (b || (a || c))
+    swapped true true c = refl
+    swapped true false c = refl
+    swapped false b c = refl
+
+any_from : (n a : ℕ) (p : ℕ → Bool) → list_any p (range_with_len a n) ≡ any n (λ i. p (a + i))
+any_from zero a p = refl
+any_from (suc n) a p =
+    let next : (i : ℕ) → a + 1 + i ≡ a + suc i = λ i. omega arith in
+    ap (λ b. p a || b) (any_from n (a + 1) p ∙ ap (any n) (λ t i. p (next i t)))
+    ∙ ap (λ b. p b || any n (λ i. p (a + suc i))) (sym (add-zero a))
+    ∙ sym (any_front n (λ i. p (a + i)))
+
+pub any_list : (n : ℕ) (p : ℕ → Bool) → list_any p (range_with_len 0 n) ≡ any n p
+any_list n p = any_from n 0 p ∙ ap (any n) (λ t i. p (zero-add i t))
 
 pub length-range : (n : ℕ) → length (range n) ≡ n
 length-range zero = refl

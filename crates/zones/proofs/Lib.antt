@@ -2,3 +2,4 @@ mod Bounded
 mod NoZones
 mod Forming
 mod Reporting
+mod Asked

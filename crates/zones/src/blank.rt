@@ -1,43 +1,29 @@
 // Whether pages stand on a flash.
 ghost use Rattle.std.specs.Prelude.{◌≡◌};
-ghost use Rattle.flash.specs.Memory.{shape_of};
 ghost use Rattle.flatcard.specs.Card.{survey};
 ghost use Rattle.flatcard.specs.Verbs.{any, printed};
 ghost use Rattle.zones.specs.Blank.{stands};
 
-use flash::{BlockAddress, Flash, Shape};
+use flash::{BlockAddress, Flash};
 
 // Whether a page stands in a block.
-fn block_printed<F: Flash>(flash: &F, bank: usize, block: usize) -> bool
-    ensures { result ≡ stands (F.Flash.memory flash.now) bank block }
+fn block_printed<F: Flash>(flash: &F, at: BlockAddress) -> bool
+    ensures { result ≡ stands (F.Flash.memory flash.now) at.bank at.block }
 {
-    match flash.standing(BlockAddress { bank, block }) {
-        Some(count) => count > 0,
-        None => false,
-    }
+    flash.standing(at).is_some_and(|count| count > 0)
 }
 
 // Whether a page stands in the first blocks of a bank.
 fn bank_printed<F: Flash>(flash: &F, bank: usize, blocks: usize) -> bool
     ensures { result ≡ any blocks (stands (F.Flash.memory flash.now) bank) }
 {
-    for block in 0..blocks {
-        if block_printed(flash, bank, block) {
-            return true;
-        }
-    }
-    false
+    (0..blocks).any(|block| block_printed(flash, BlockAddress { bank, block }))
 }
 
 // Whether a page stands anywhere: each block is asked once, up to the first with a standing page.
-pub(crate) fn printed<F: Flash>(flash: &F, shape: Shape) -> bool
-    requires { shape ≡ shape_of (F.Flash.memory flash.now) }
+pub(crate) fn printed<F: Flash>(flash: &F) -> bool
     ensures { result ≡ printed (survey (F.Flash.memory flash.now)) }
 {
-    for bank in 0..shape.banks {
-        if bank_printed(flash, bank, shape.blocks) {
-            return true;
-        }
-    }
-    false
+    let shape = flash.shape();
+    (0..shape.banks).any(|bank| bank_printed(flash, bank, shape.blocks))
 }

@@ -13,12 +13,12 @@ pub enum Phase {
     Threaded { group: usize, old: usize },
 }
 
-impl Phase {
-    // The state that a report shows.
-    pub(crate) fn state(self) -> State
-        ensures { result ≡ phase_state self }
-    {
-        match self {
+// The state that a report shows.
+impl From<Phase> for State {
+    ghost from_gives = { λ phase state. state ≡ phase_state phase };
+
+    fn from(phase: Phase) -> State {
+        match phase {
             Phase::Empty => State::Empty,
             Phase::Open { .. } => State::Open,
             Phase::Full { .. } => State::Full,

@@ -9,6 +9,7 @@ ghost use Rattle.zones.specs.Formed.{Begun};
 use super::{Book, Row};
 use crate::geometry::Geometry;
 use crate::report::ZoneReport;
+use crate::state::State;
 use crate::zone::{Phase, Zone};
 
 const NO_ZONE: Zone = Zone {
@@ -67,7 +68,7 @@ impl Book {
         let held = self.zones[zone];
         let start = geometry.start(zone);
         ZoneReport {
-            state: held.phase.state(),
+            state: State::from(held.phase),
             start,
             pointer: start + held.pointer,
         }

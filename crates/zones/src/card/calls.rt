@@ -42,15 +42,11 @@ impl<F: Flash> Card<F> {
         let Some(geometry) = Geometry::on(shape, limit, width) else {
             return Err(CardRefusal::Shape);
         };
-        if printed(&self.flash, shape) {
+        if printed(&self.flash) {
             return Err(CardRefusal::Printed);
         }
         self.book.form(geometry);
-        Ok(Done {
-            programmed: 0,
-            copied: 0,
-            erased: 0,
-        })
+        Ok(Done::default())
     }
 
     // Fills the caller's list with a line for each zone from the first on.

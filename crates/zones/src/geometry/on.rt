@@ -11,7 +11,7 @@ use flash::Shape;
 fn is_width(width: usize) -> bool
     ensures { result ≡ is_width width }
 {
-    width == 1 || width == 2 || width == 4 || width == 8 || width == 16
+    matches!(width, 1 | 2 | 4 | 8 | 16)
 }
 
 impl Geometry {

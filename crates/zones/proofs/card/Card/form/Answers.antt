@@ -9,7 +9,7 @@ returns g c =
     let well = formed_well (g.F.Flash.memory s.flash) s.book c.form.new.self c.shape-shape.result c.args.limit c.args.width c.in-Some.geometry
     c.shape-shape.ensures c.in-Some.ensures (none_of s.book.geometry (search rules)) (sym c.if-printed.ensures) c.form.ensures in
     record {
-      answer = well.answer;
+      answer = search rules;
       flat = well.flat;
       flash = refl;
       refused = λ e. absurd (false≢true (sym e));
