@@ -4,12 +4,11 @@ use Rattle.std.proofs.lemmas.Nat.{mod-mul-add}
 use Rattle.std.proofs.lemmas.List.{ext_get_or, get_or-take, get_or-drop, get_or-replicate, length-take, length-drop, take_at}
 use Rattle.std.proofs.lemmas.Bool.{cond_both, cond-true, cond-false, false≢true, ltb-true}
 use Rattle.std.proofs.lemmas.Bool.Decides.{nat_tests}
-use Rattle.flash.specs.declared.Shape.{Shape}
-use Rattle.flash.specs.Memory.{Memory, shape_of}
+use Rattle.flash.specs.Memory.{Memory}
 use Rattle.flash.specs.Tables.{first}
 use Rattle.flatcard.specs.Card.{zones, formed, done, blank, survey}
 use Rattle.flatcard.specs.Card as flat
-use Rattle.flatcard.specs.Calls.{bad_shape, empty_zone, form, form_card, form_checks, geometry_on, new_card}
+use Rattle.flatcard.specs.Calls.{empty_zone, form, form_card, form_checks, new_card}
 use Rattle.flatcard.specs.Layout.{LaidOut}
 use Rattle.flatcard.specs.Verbs.{is_active, range, printed}
 use Rattle.flash.proofs.Calls.{not_refused}
@@ -19,7 +18,7 @@ use Rattle.zones.specs.declared.book.Book.{Book}
 use Rattle.zones.specs.declared.geometry.Geometry.{Geometry}
 use Rattle.zones.specs.Defaults.{no_zone}
 use Rattle.zones.specs.Formed.{Begun}
-use Rattle.zones.specs.Geometries.{Fitting, geometry_of, unfit}
+use Rattle.zones.specs.Geometries.{Fitting, geometry_of}
 use Rattle.zones.specs.Intact.{IntactBook, IntactFormed}
 use Rattle.zones.specs.View.{card_of, elements, flat_of, in_slot, row_of, sector_of, zone_at, zone_of, zone_phase}
 use Rattle.zones.proofs.NoZones.{no_zones}
@@ -51,7 +50,7 @@ module _ (m : Memory) (b : Book) (g : Geometry) (begun : Begun b g) where
 
   module _ (k : ℕ) (low : k < g.chips) where
     in_table : k * g.blocks + g.blocks ≤ 64
-    in_table = let more : k + 1 ≤ g.chips = omega arith in omega (arith, mul-le-mul_right g.blocks more, add-mul k 1 g.blocks, g.tabled)
+    in_table = let more : k + 1 ≤ g.chips = omega arith in omega (arith, mul-le-mul_right g.blocks more, add-mul k 1 g.blocks, g.fits.groups)
 
     stretch_long : length (stretch k) ≡ g.blocks
     unfolding stretch
@@ -70,7 +69,7 @@ module _ (m : Memory) (b : Book) (g : Geometry) (begun : Begun b g) where
     full_row : elements (get_or b.rows k (record { front = 0; count = 0 })) (stretch k) ≡ range g.blocks
     full_row =
         ap (λ rows. elements (get_or rows k (record { front = 0; count = 0 })) (stretch k)) begun.rows
-        ∙ ap (λ row. elements row (stretch k)) (get_or-replicate 16 k (record { front = 0; count = g.blocks }) (record { front = 0; count = 0 }) (omega (arith, g.rows)))
+        ∙ ap (λ row. elements row (stretch k)) (get_or-replicate 16 k (record { front = 0; count = g.blocks }) (record { front = 0; count = 0 }) (omega (arith, g.fits.rows)))
         ∙ whole_row (stretch k) g.blocks stretch_long
         ∙ stretch_is
 
@@ -112,32 +111,26 @@ pub record FormedWell (m : Memory) (b b' : Book) (limit width : ℕ) : Type 0 wh
   pub flat : flat_of m b' b'.geometry ≡ (form (flat_of m b b.geometry) limit width (survey m)).1
   pub intact : IntactBook m b' b'.geometry
 
-module _ (m : Memory) (b b' : Book) (shape : Shape) (limit width : ℕ) (g : Geometry) (seen : shape ≡ shape_of m) (fit : Fitting shape limit width g)
+module _ (m : Memory) (b b' : Book) (limit width : ℕ) (g : Geometry) (fit : Fitting m limit width g)
     (unformed_is : b.geometry ≡ None) (blank_is : printed (survey m) ≡ false) (begun : Begun b' g) where
-  geometry_is : geometry_of g ≡ geometry_on (survey m) limit width
-  geometry_is = fit.is ∙ (λ i. record { limit = limit; width = width; blocks = (seen i).blocks; depth = (seen i).pages; chips = (seen i).banks / width })
-
-  fits : bad_shape (survey m) limit width ≡ false
-  fits = ap (λ s. unfit s limit width) (sym seen) ∙ fit.fits
-
   accepted : form (flat_of m b b.geometry) limit width (survey m) ≡ form_card (survey m) limit width
   accepted = ap (λ o. form (flat_of m b o) limit width (survey m)) unformed_is
-      ∙ not_refused (first (form_checks (survey m) limit width)) (form_card (survey m) limit width) _ (λ i. cond (fits i) 13 (cond (blank_is i) 14 0))
+      ∙ not_refused (first (form_checks (survey m) limit width)) (form_card (survey m) limit width) _ (λ i. cond (fit.fits i) 13 (cond (blank_is i) 14 0))
 
   -- the chip groups make up the banks
   whole : g.chips * g.width ≡ m.banks
   whole =
-      let even : m.banks % width ≡ 0 = grind (arith, nat_tests, fits) in
-      let chips : g.chips ≡ m.banks / width = ap (λ x. x.chips) geometry_is in
-      let wide : g.width ≡ width = ap (λ x. x.width) geometry_is in
+      let even : m.banks % width ≡ 0 = grind (arith, nat_tests, fit.fits) in
+      let chips : g.chips ≡ m.banks / width = ap (λ x. x.chips) fit.is in
+      let wide : g.width ≡ width = ap (λ x. x.width) fit.is in
       (λ i. chips i * wide i) ∙ omega (arith, div-add-mod' m.banks width)
 
   pub formed_well : FormedWell m b b' limit width
   formed_well = record {
     answer = sym (ap (λ r. r.0) accepted);
     flat = ap (flat_of m b') begun.geometry
-        ∙ ap formed (card_is m b' g begun ∙ ap (new_card (survey m)) geometry_is)
+        ∙ ap formed (card_is m b' g begun ∙ ap (new_card (survey m)) fit.is)
         ∙ sym (ap (λ r. r.1) accepted);
     intact = subst (IntactBook m b') (sym begun.geometry)
-        (intact_is m b' g begun (new_laid_out m (geometry_of g) whole (ap (λ x. x.blocks) geometry_is) (ap (λ x. x.depth) geometry_is) blank_is));
+        (intact_is m b' g begun (new_laid_out m (geometry_of g) whole (ap (λ x. x.blocks) fit.is) (ap (λ x. x.depth) fit.is) blank_is));
   }

@@ -7,3 +7,4 @@ pub mod Intact
 pub mod Formed
 pub mod Blank
 pub mod Lines
+pub mod Tables

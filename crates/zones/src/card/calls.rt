@@ -38,10 +38,7 @@ impl<F: Flash> Card<F> {
         if self.book.geometry.is_some() {
             return Err(CardRefusal::Formed);
         }
-        let shape = self.flash.shape();
-        let Some(geometry) = Geometry::on(shape, limit, width) else {
-            return Err(CardRefusal::Shape);
-        };
+        let geometry = Geometry::on(&self.flash, limit, width).ok_or(CardRefusal::Shape)?;
         if printed(&self.flash) {
             return Err(CardRefusal::Printed);
         }

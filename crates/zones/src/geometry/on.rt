@@ -1,11 +1,11 @@
 // How zones are laid on a flash.
 ghost use Rattle.std.specs.Prelude.{◌≡◌, ◌*◌, ◌<◌, ◌≤◌, true, MatchOption};
-ghost use Rattle.flatcard.specs.Calls.{is_width};
-ghost use Rattle.flatcard.specs.Card.{capacity, start, zones};
-ghost use Rattle.zones.specs.Geometries.{geometry_of, Fitting, unfit};
+ghost use Rattle.flatcard.specs.Calls.{bad_shape, is_width};
+ghost use Rattle.flatcard.specs.Card.{capacity, start, survey, zones};
+ghost use Rattle.zones.specs.Geometries.{geometry_of, Fitting};
 
 use super::Geometry;
-use flash::Shape;
+use flash::Flash;
 
 // Whether a zone may be striped over so many banks.
 fn is_width(width: usize) -> bool
@@ -15,11 +15,11 @@ fn is_width(width: usize) -> bool
 }
 
 impl Geometry {
-    // The numbers of a card on a flash of that shape, or none where they do not fit it.
-    pub(crate) fn on(shape: Shape, limit: usize, width: usize) -> Option<Geometry>
-        requires { (shape.banks ≤ 16) × ((shape.blocks ≤ 64) × (shape.pages ≤ 64)) }
-        ensures { MatchOption result (unfit shape limit width ≡ true) (λ g. Fitting shape limit width g) }
+    // The numbers of a card on a flash, or none where they do not fit it.
+    pub(crate) fn on<F: Flash>(flash: &F, limit: usize, width: usize) -> Option<Geometry>
+        ensures { MatchOption result (bad_shape (survey (F.Flash.memory flash.now)) limit width ≡ true) (λ g. Fitting (F.Flash.memory flash.now) limit width g) }
     {
+        let shape = flash.shape();
         if limit == 0 || limit > 4 || !is_width(width) {
             return None;
         }
