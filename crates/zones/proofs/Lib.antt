@@ -2,4 +2,4 @@ mod Bounded
 mod NoZones
 mod Forming
 mod Reporting
-mod Asked
+mod Ranges

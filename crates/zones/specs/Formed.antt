@@ -1,12 +1,11 @@
 -- What forming makes of a book.
-use Rattle.std.specs.Prelude.{◌≡◌, ℕ, ◌%◌, ◌<◌, length, replicate, Some, slice_index}
+use Rattle.std.specs.Prelude.{◌≡◌, ℕ, ◌%◌, ◌<◌, length, replicate, slice_index}
 use Rattle.zones.specs.declared.book.Book.{Book}
-use Rattle.zones.specs.declared.geometry.Geometry.{Geometry}
 use Rattle.zones.specs.Defaults.{no_zone}
 
-pub record Begun (b : Book) (g : Geometry) : Type 0 where
-  pub geometry : b.geometry ≡ Some g
+-- every zone is empty, and every row has all groups of its chip group
+pub record Begun (b : Book) : Type 0 where
   pub zones : b.zones ≡ replicate 64 no_zone
-  pub rows : b.rows ≡ replicate 16 (record { front = 0; count = g.blocks })
+  pub rows : b.rows ≡ replicate 16 (record { front = 0; count = b.geometry.blocks })
   pub groups : length b.groups ≡ 64
-  pub rising : (i : ℕ) → i < 64 → slice_index b.groups i ≡ i % g.blocks
+  pub rising : (i : ℕ) → i < 64 → slice_index b.groups i ≡ i % b.geometry.blocks

@@ -1,10 +1,12 @@
 pub mod Numbers
 pub mod Phases
+pub mod Tables
 pub mod Geometries
 pub mod Defaults
+pub mod Books
+pub mod IntactBooks
 pub mod View
 pub mod Intact
 pub mod Formed
 pub mod Blank
 pub mod Lines
-pub mod Tables

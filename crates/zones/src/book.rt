@@ -1,11 +1,19 @@
-// What the card keeps beside its flash.
+// What a formed card keeps beside its flash. The tables are of fixed sizes, since the firmware allocates nothing.
+ghost use Rattle.std.specs.Prelude.{◌≡◌, ◌+◌, ◌<◌};
+ghost use Rattle.flatcard.specs.Card.{start, zones};
 ghost use Rattle.zones.specs.Defaults.{Pointers};
+ghost use Rattle.zones.specs.Geometries.{geometry_of};
+ghost use Rattle.zones.specs.Phases.{phase_state};
 
 use crate::geometry::Geometry;
-use crate::zone::Zone;
+use crate::report::ZoneReport;
+use crate::state::State;
+use crate::zone::{Slot, Zone};
+use std::array;
 
 // The free block groups of a chip group, first in first out: where the front stands in the chip group's stretch of
-// the table of groups, and how many there are from there on, going round at the stretch's end.
+// the table of groups, and how many there are from there on, going round at the stretch's end. A start and a count,
+// since no call takes a group yet: what takes them will lend the stretch to a ring.
 #[derive(Clone, Copy)]
 pub struct Row {
     pub front: usize,
@@ -14,18 +22,52 @@ pub struct Row {
 
 #[derive(Drop)]
 pub struct Book {
-    // none before the card is formed
-    pub geometry: Option<Geometry>,
+    pub geometry: Geometry,
     pub zones: [Zone; 64],
     // by chip group
     pub rows: [Row; 16],
     // the stretches of the rows, one after another, each as long as a bank has blocks
     pub groups: [usize; 64],
-    // by slot: the page that a zone is filling, and the map of a zone's kept sectors
-    pub pages: [[u8; 2048]; 4],
-    pub maps: [[u8; 512]; 4],
+    pub slots: [Slot; 4],
     // no pointer is past the end of the longest zone
     ghost pointers: { Pointers zones },
 }
 
-mod forms;
+impl Book {
+    ghost use Rattle.zones.specs.Books.{zone_at};
+    ghost use Rattle.zones.specs.Formed.{Begun};
+
+    // The book of a card just formed: every zone empty, every block group free.
+    pub(crate) fn new(geometry: Geometry) -> Self
+        ensures geometry { result.geometry ≡ geometry }
+        ensures begun { Begun result }
+    {
+        let groups = array::from_fn(|i| i % geometry.blocks);
+        Book {
+            geometry,
+            zones: [Zone::EMPTY; 64],
+            rows: [Row {
+                front: 0,
+                count: geometry.blocks,
+            }; 16],
+            groups,
+            slots: [Slot::BLANK; 4],
+        }
+    }
+
+    // A zone as a report shows it.
+    pub(crate) fn line(&self, zone: usize) -> ZoneReport
+        requires { zone < zones (geometry_of self.now.geometry) }
+        ensures state { result.state ≡ phase_state (zone_at self.now zone).phase }
+        ensures start { result.start ≡ start (geometry_of self.now.geometry) zone }
+        ensures pointer { result.pointer ≡ start (geometry_of self.now.geometry) zone + (zone_at self.now zone).pointer }
+    {
+        let held = self.zones[zone];
+        let start = self.geometry.start(zone);
+        ZoneReport {
+            state: State::from(held.phase),
+            start,
+            pointer: start + held.pointer,
+        }
+    }
+}

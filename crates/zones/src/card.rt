@@ -1,11 +1,68 @@
 // The card over a flash that it holds.
+ghost use Rattle.std.specs.Prelude.{◌≡◌, false, map, is_ok};
+ghost use Rattle.flatcard.specs.Calls.{form, report};
+ghost use Rattle.flatcard.specs.Card.{unformed};
+ghost use Rattle.zones.specs.Numbers.{answer_of, line_of, number_of};
+
+use crate::blank::printed;
 use crate::book::Book;
+use crate::geometry::Geometry;
+use crate::refusal::{CardRefusal, Done};
+use crate::report::ZoneReport;
 use flash::Flash;
 
 #[derive(Drop)]
 pub struct Card<F: Flash> {
     flash: F,
-    book: Book,
+    // none before the card is formed
+    book: Option<Book>,
 }
 
-mod calls;
+impl<F: Flash> Card<F> {
+    ghost use Rattle.zones.specs.View.{flat_card, surveyed};
+    ghost use Rattle.zones.specs.Intact.{Intact};
+
+    // A card over a flash, not formed yet.
+    pub fn new(flash: F) -> Self
+        ensures flat { flat_card F.Flash.memory result ≡ unformed }
+        ensures flash { result.flash ≡ flash }
+        ensures intact { Intact F.Flash.memory result }
+    {
+        Card { flash, book: None }
+    }
+
+    // Forms the card: at most `limit` zones open or threaded together, each striped over `width` banks.
+    pub fn form(&mut self, limit: usize, width: usize) -> Result<Done, CardRefusal>
+        ensures answer { answer_of result ≡ (form (flat_card F.Flash.memory self.old) limit width (surveyed F.Flash.memory self.old)).0 }
+        ensures flat { flat_card F.Flash.memory self.new ≡ (form (flat_card F.Flash.memory self.old) limit width (surveyed F.Flash.memory self.old)).1 }
+        ensures flash { self.new.flash ≡ self.old.flash }
+        ensures refused { is_ok result ≡ false → self.new ≡ self.old }
+        ensures intact { Intact F.Flash.memory self.old → Intact F.Flash.memory self.new }
+    {
+        if self.book.is_some() {
+            return Err(CardRefusal::Formed);
+        }
+        let geometry = Geometry::on(&self.flash, limit, width).ok_or(CardRefusal::Shape)?;
+        if printed(&self.flash) {
+            return Err(CardRefusal::Printed);
+        }
+        self.book = Some(Book::new(geometry));
+        Ok(Done::default())
+    }
+
+    // Fills the caller's list with a line for each zone from the first on.
+    pub fn report(&self, first: usize, list: &mut [ZoneReport]) -> Result<(), CardRefusal>
+        ensures answer { number_of result ≡ (report (flat_card F.Flash.memory self.now) first (map line_of list.old)).0 }
+        ensures list { map line_of list.new ≡ (report (flat_card F.Flash.memory self.now) first (map line_of list.old)).1 }
+        ensures refused { is_ok result ≡ false → list.new ≡ list.old }
+    {
+        let book = self.book.as_ref().ok_or(CardRefusal::Unformed)?;
+        if !book.geometry.has_zones(first, list.len()) {
+            return Err(CardRefusal::Range);
+        }
+        for (i, line) in list.iter_mut().enumerate() {
+            *line = book.line(first + i);
+        }
+        Ok(())
+    }
+}

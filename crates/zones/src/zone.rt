@@ -27,10 +27,33 @@ impl From<Phase> for State {
     }
 }
 
-// A zone: its phase, its write pointer as an offset, and the number of its page buffer. It has one only while it is open or threaded.
+// A zone: its phase, its write pointer as an offset, and the number of its slot. It has one only while it is open or
+// threaded. The number stands beside the phase, and not in it, so that sectors are put and read alike in both.
 #[derive(Clone, Copy)]
 pub struct Zone {
     pub phase: Phase,
     pub pointer: usize,
     pub slot: Option<usize>,
+}
+
+impl Zone {
+    pub const EMPTY: Zone = Zone {
+        phase: Phase::Empty,
+        pointer: 0,
+        slot: None,
+    };
+}
+
+// What a zone needs while it is open or threaded: the page that it is filling, and the map of its kept sectors.
+#[derive(Clone, Copy)]
+pub struct Slot {
+    pub page: [u8; 2048],
+    pub map: [u8; 512],
+}
+
+impl Slot {
+    pub const BLANK: Slot = Slot {
+        page: [0; 2048],
+        map: [0; 512],
+    };
 }

@@ -1,7 +1,7 @@
 use Rattle.std.proofs.Common.{rules}
 use borrow.Author.Tests.{tests}
 use Rattle.zones.specs.Blank.{stands}
-use Rattle.zones.proofs.Asked.{any_asked}
+use Rattle.zones.proofs.Ranges.{any_asked}
 use Rattle.zones.proofs.blank.bank_printed.Goals as goal
 
 pub returns : goal.returns

@@ -4,7 +4,7 @@ use Rattle.flash.specs.declared.Shape.{Shape}
 use Rattle.flash.specs.Memory.{Memory}
 use Rattle.flatcard.specs.Verbs.{any}
 use Rattle.zones.specs.Blank.{stands}
-use Rattle.zones.proofs.Asked.{any_asked}
+use Rattle.zones.proofs.Ranges.{any_asked}
 use Rattle.zones.proofs.blank.printed.Goals as goal
 
 -- some bank of that shape is printed

@@ -1,5 +1,12 @@
+use Rattle.std.proofs.Common.{◌%◌, refl, rules}
 use Rattle.zones.proofs.NoZones.{no_pointers}
+use Rattle.zones.proofs.Ranges.{each_made}
 use Rattle.zones.proofs.book.Book.new.Goals as goal
 
 pub invariant_of-result : goal.invariant_of-result
 invariant_of-result c = record { pointers = no_pointers }
+
+pub returns-clause-begun : goal.returns-clause-begun
+returns-clause-begun c =
+    let groups = c.from_fn-groups.ensures.items in
+    record { zones = refl; rows = refl; groups = groups.long; rising = λ i l. each_made _ _ (λ n. n % c.args.geometry.blocks) (λ x y q k. search rules) _ 64 groups i 0 l }
