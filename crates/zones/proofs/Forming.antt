@@ -8,7 +8,7 @@ use Rattle.flash.specs.Memory.{Memory}
 use Rattle.flash.specs.Tables.{first}
 use Rattle.flatcard.specs.Card.{formed, done, blank, survey, unformed}
 use Rattle.flatcard.specs.Card as flat
-use Rattle.flatcard.specs.Calls.{empty_zone, form, form_card, form_checks, new_card}
+use Rattle.flatcard.specs.Calls.{empty_zone, form, form_card, form_checks, geometry_on, new_card}
 use Rattle.flatcard.specs.Layout.{LaidOut}
 use Rattle.flatcard.specs.Verbs.{is_active, range, printed}
 use Rattle.flash.proofs.Calls.{not_refused}
@@ -27,7 +27,7 @@ use Rattle.zones.proofs.NoZones.{no_zones}
 whole_row : (stretch : List ℕ) (n : ℕ) → length stretch ≡ n → elements (record { front = 0; count = n }) stretch ≡ stretch
 whole_row stretch n e = take_at stretch stretch n e
 
-module _ (m : Memory) (b : Book) (begun : Begun b) where
+module _ (m : Memory) (b : Book) (g' : Geometry) (begun : Begun b g') where
   abbrev g : Geometry
   g = b.geometry
 
@@ -104,21 +104,24 @@ module _ (m : Memory) (b : Book) (begun : Begun b) where
   }
 
 -- ---- the call, where no refusal applies
-module _ (m : Memory) (b : Book) (begun : Begun b) (limit width : ℕ) (fit : Fitting m limit width b.geometry) (blank_is : printed (survey m) ≡ false) where
+module _ (m : Memory) (limit width : ℕ) (g : Geometry) (fit : Fitting m limit width g) (blank_is : printed (survey m) ≡ false) (b : Book) (begun : Begun b g) where
+  fits : geometry_of b.geometry ≡ geometry_on (survey m) limit width
+  fits = ap geometry_of begun.geometry ∙ fit.is
+
   accepted : form unformed limit width (survey m) ≡ form_card (survey m) limit width
   accepted = not_refused (first (form_checks (survey m) limit width)) (form_card (survey m) limit width) _ (λ i. cond (fit.fits i) 13 (cond (blank_is i) 14 0))
 
   pub form_is : (o : Option Book) → is_some o ≡ false → form (flat_of m o) limit width (survey m) ≡ (done 0 0 0, formed (card_of m b))
-  form_is None e = accepted ∙ ap (λ c. (done 0 0 0, formed c)) (sym (card_is m b begun ∙ ap (new_card (survey m)) fit.is))
+  form_is None e = accepted ∙ ap (λ c. (done 0 0 0, formed c)) (sym (card_is m b g begun ∙ ap (new_card (survey m)) fits))
   form_is (Some _) e = absurd (false≢true (sym e))
 
   -- the chip groups make up the banks
   whole : b.geometry.chips * b.geometry.width ≡ m.banks
   whole =
       let even : m.banks % width ≡ 0 = grind (arith, nat_tests, fit.fits) in
-      let chips : b.geometry.chips ≡ m.banks / width = ap (λ x. x.chips) fit.is in
-      let wide : b.geometry.width ≡ width = ap (λ x. x.width) fit.is in
+      let chips : b.geometry.chips ≡ m.banks / width = ap (λ x. x.chips) fits in
+      let wide : b.geometry.width ≡ width = ap (λ x. x.width) fits in
       (λ i. chips i * wide i) ∙ omega (arith, div-add-mod' m.banks width)
 
   pub intact_is : IntactFormed m b
-  intact_is = intact_if m b begun (new_laid_out m (geometry_of b.geometry) whole (ap (λ x. x.blocks) fit.is) (ap (λ x. x.depth) fit.is) blank_is)
+  intact_is = intact_if m b g begun (new_laid_out m (geometry_of b.geometry) whole (ap (λ x. x.blocks) fits) (ap (λ x. x.depth) fits) blank_is)

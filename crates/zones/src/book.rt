@@ -39,8 +39,7 @@ impl Book {
 
     // The book of a card just formed: every zone empty, every block group free.
     pub(crate) fn new(geometry: Geometry) -> Self
-        ensures geometry { result.geometry ≡ geometry }
-        ensures begun { Begun result }
+        ensures { Begun result geometry }
     {
         let groups = array::from_fn(|i| i % geometry.blocks);
         Book {

@@ -2,6 +2,7 @@
 ghost use Rattle.std.specs.Prelude.{◌≡◌, false, map, is_ok};
 ghost use Rattle.flatcard.specs.Calls.{form, report};
 ghost use Rattle.flatcard.specs.Card.{unformed};
+ghost use Rattle.zones.specs.IntactBooks.{IntactBook, intact_prop};
 ghost use Rattle.zones.specs.Numbers.{answer_of, line_of, number_of};
 
 use crate::blank::printed;
@@ -16,17 +17,17 @@ pub struct Card<F: Flash> {
     flash: F,
     // none before the card is formed
     book: Option<Book>,
+    // the book lies on the flash as it should
+    ghost intact: { IntactBook (F.Flash.memory flash) book } by { intact_prop (F.Flash.memory flash) book },
 }
 
 impl<F: Flash> Card<F> {
     ghost use Rattle.zones.specs.View.{flat_card, surveyed};
-    ghost use Rattle.zones.specs.Intact.{Intact};
 
     // A card over a flash, not formed yet.
     pub fn new(flash: F) -> Self
         ensures flat { flat_card F.Flash.memory result ≡ unformed }
         ensures flash { result.flash ≡ flash }
-        ensures intact { Intact F.Flash.memory result }
     {
         Card { flash, book: None }
     }
@@ -37,7 +38,6 @@ impl<F: Flash> Card<F> {
         ensures flat { flat_card F.Flash.memory self.new ≡ (form (flat_card F.Flash.memory self.old) limit width (surveyed F.Flash.memory self.old)).1 }
         ensures flash { self.new.flash ≡ self.old.flash }
         ensures refused { is_ok result ≡ false → self.new ≡ self.old }
-        ensures intact { Intact F.Flash.memory self.old → Intact F.Flash.memory self.new }
     {
         if self.book.is_some() {
             return Err(CardRefusal::Formed);

@@ -6,7 +6,7 @@ use Rattle.zones.proofs.book.Book.new.Goals as goal
 pub invariant_of-result : goal.invariant_of-result
 invariant_of-result c = record { pointers = no_pointers }
 
-pub returns-clause-begun : goal.returns-clause-begun
-returns-clause-begun c =
+pub returns : goal.returns
+returns c =
     let groups = c.from_fn-groups.ensures.items in
-    record { zones = refl; rows = refl; groups = groups.long; rising = λ i l. each_made _ _ (λ n. n % c.args.geometry.blocks) (λ x y q k. search rules) _ 64 groups i 0 l }
+    record { geometry = refl; zones = refl; rows = refl; groups = groups.long; rising = λ i l. each_made _ _ (λ n. n % c.args.geometry.blocks) (λ x y q k. search rules) _ 64 groups i 0 l }
