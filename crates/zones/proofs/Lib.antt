@@ -1,4 +1,3 @@
-mod Bounded
 mod NoZones
 mod Forming
 mod Reporting
