@@ -1,7 +1,6 @@
 // What a formed card keeps beside its flash. The tables are of fixed sizes, since the firmware allocates nothing.
 ghost use Rattle.std.specs.Prelude.{◌≡◌, ◌+◌, ◌<◌};
 ghost use Rattle.flatcard.specs.Card.{start, zones};
-ghost use Rattle.zones.specs.Defaults.{Pointers};
 ghost use Rattle.zones.specs.Geometries.{geometry_of};
 ghost use Rattle.zones.specs.Phases.{phase_state};
 
@@ -29,8 +28,6 @@ pub struct Book {
     // the stretches of the rows, one after another, each as long as a bank has blocks
     pub groups: [usize; 64],
     pub slots: [Slot; 4],
-    // no pointer is past the end of the longest zone
-    ghost pointers: { Pointers zones },
 }
 
 impl Book {

@@ -1,5 +1,5 @@
 // What the card keeps of a zone.
-ghost use Rattle.std.specs.Prelude.{◌≡◌};
+ghost use Rattle.std.specs.Prelude.{◌≡◌, ◌≤◌};
 ghost use Rattle.zones.specs.Phases.{phase_state};
 
 use crate::state::State;
@@ -34,6 +34,8 @@ pub struct Zone {
     pub phase: Phase,
     pub pointer: usize,
     pub slot: Option<usize>,
+    // the longest zone has 4,096 sectors: 16 banks of 64 pages
+    ghost reach: { pointer ≤ 4096 },
 }
 
 impl Zone {
