@@ -60,6 +60,7 @@ impl<F: Flash> Card<F> {
         if !book.geometry.has_zones(first, list.len()) {
             return Err(CardRefusal::Range);
         }
+        // By index: what is written through a zip with the zones' numbers is not followed.
         for (i, line) in list.iter_mut().enumerate() {
             *line = book.line(first + i);
         }

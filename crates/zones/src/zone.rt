@@ -3,6 +3,7 @@ ghost use Rattle.std.specs.Prelude.{◌≡◌, ◌≤◌};
 ghost use Rattle.zones.specs.Phases.{phase_state};
 
 use crate::state::State;
+use flash::PAGE;
 
 // What a zone is doing, with the block group that it fills or has filled, and the old one that it is threaded over.
 #[derive(Clone, Copy)]
@@ -49,13 +50,13 @@ impl Zone {
 // What a zone needs while it is open or threaded: the page that it is filling, and the map of its kept sectors.
 #[derive(Clone, Copy)]
 pub struct Slot {
-    pub page: [u8; 2048],
+    pub page: [u8; PAGE],
     pub map: [u8; 512],
 }
 
 impl Slot {
     pub const BLANK: Slot = Slot {
-        page: [0; 2048],
+        page: [0; PAGE],
         map: [0; 512],
     };
 }
