@@ -26,7 +26,7 @@ impl<F: Flash> Card<F> {
 
     // A card over a flash, not formed yet.
     pub fn new(flash: F) -> Self
-        ensures flat { flat_card F.Flash.memory result ≡ unformed }
+        ensures flat { flat_card result ≡ unformed }
         ensures flash { result.flash ≡ flash }
     {
         Card { flash, book: None }
@@ -34,8 +34,8 @@ impl<F: Flash> Card<F> {
 
     // Forms the card: at most `limit` zones open or threaded together, each striped over `width` banks.
     pub fn form(&mut self, limit: usize, width: usize) -> Result<Done, CardRefusal>
-        ensures answer { answer_of result ≡ (form (flat_card F.Flash.memory self.old) limit width (surveyed F.Flash.memory self.old)).0 }
-        ensures flat { flat_card F.Flash.memory self.new ≡ (form (flat_card F.Flash.memory self.old) limit width (surveyed F.Flash.memory self.old)).1 }
+        ensures answer { answer_of result ≡ (form (flat_card self.old) limit width (surveyed self.old)).0 }
+        ensures flat { flat_card self.new ≡ (form (flat_card self.old) limit width (surveyed self.old)).1 }
         ensures flash { self.new.flash ≡ self.old.flash }
         ensures refused { is_ok result ≡ false → self.new ≡ self.old }
     {
@@ -52,8 +52,8 @@ impl<F: Flash> Card<F> {
 
     // Fills the caller's list with a line for each zone from the first on.
     pub fn report(&self, first: usize, list: &mut [ZoneReport]) -> Result<(), CardRefusal>
-        ensures answer { number_of result ≡ (report (flat_card F.Flash.memory self.now) first (map line_of list.old)).0 }
-        ensures list { map line_of list.new ≡ (report (flat_card F.Flash.memory self.now) first (map line_of list.old)).1 }
+        ensures answer { number_of result ≡ (report (flat_card self.now) first (map line_of list.old)).0 }
+        ensures list { map line_of list.new ≡ (report (flat_card self.now) first (map line_of list.old)).1 }
         ensures refused { is_ok result ≡ false → list.new ≡ list.old }
     {
         let book = self.book.as_ref().ok_or(CardRefusal::Unformed)?;
