@@ -2,7 +2,7 @@
 use crate::state::State;
 
 // The state, the address of the first sector, and the address of the write pointer.
-#[derive(Clone, Copy, PartialEq, Eq, Debug)]
+#[derive(Clone, Copy, Default, PartialEq, Eq, Debug)]
 pub struct ZoneReport {
     pub state: State,
     pub start: usize,
