@@ -58,4 +58,4 @@ module _ (m : Memory) (b : Book) where
       let u : k < length before = omega (arith, long) in
       get_or-map line_of after k no_line (line_of no_line) (omega arith) ∙ each k u ∙ sym (get_or-lines c first n k (line_of no_line) (omega arith))) in
       let accepted : ltb (zones g) (first + n) ≡ false = le-ltb _ _ (omega arith) in
-      all ∙ sym (not_refused _ (lines c first n) (map line_of before) (ap (λ t. cond t 16 0) accepted)) ∙ ap (λ x. (report (flat_of m x) first (map line_of before)).1) (sym is)
+      all ∙ sym (not_refused (cond (ltb (zones g) (first + n)) 16 0) (lines c first n) (map line_of before) (ap (λ t. cond t 16 0) accepted)) ∙ ap (λ x. (report (flat_of m x) first (map line_of before)).1) (sym is)

@@ -1,5 +1,5 @@
 // The numbers that forming fixes.
-ghost use Rattle.std.specs.Prelude.{◌≡◌, ◌+◌, ◌*◌, ◌<◌, ◌≤◌, ◌↔◌, true, IsTrue, MatchOption};
+ghost use Rattle.std.specs.Prelude.{◌≡◌, ◌+◌, ◌*◌, ◌<◌, ◌≤◌, ◌↔◌, true, IsTrue, IfSome, IfNone};
 ghost use Rattle.flatcard.specs.Calls.{bad_shape, is_width};
 ghost use Rattle.flatcard.specs.Card.{capacity, start, survey, zones};
 ghost use Rattle.zones.specs.Tables.{FitsTables};
@@ -30,7 +30,8 @@ impl Geometry {
 
     // The numbers of a card on a flash, or none where they do not fit it.
     pub(crate) fn on<F: Flash>(flash: &F, limit: usize, width: usize) -> Option<Geometry>
-        ensures { MatchOption result (bad_shape (survey (F.Flash.memory flash.now)) limit width ≡ true) (λ g. Fitting (F.Flash.memory flash.now) limit width g) }
+        ensures fits { IfSome result (Fitting (F.Flash.memory flash.now) limit width) }
+        ensures unfit { IfNone result (bad_shape (survey (F.Flash.memory flash.now)) limit width ≡ true) }
     {
         let shape = flash.shape();
         if limit == 0 || limit > 4 || !is_width(width) {
