@@ -1,21 +1,9 @@
 -- Tests of every number below a bound, and the list of those numbers.
-use Rattle.std.proofs.Common.{◌≡◌, ℕ, zero, suc, ◌+◌, ◌<◌, Bool, true, false, ◌||◌, [], ◌∷◌, ◌++◌, length, get_or, sym, refl, ap, ◌∙◌, ⊎_elim, zero-add, add-zero, add-one, arith}
+use Rattle.std.proofs.Common.{◌≡◌, ℕ, zero, suc, ◌+◌, ◌<◌, Bool, true, false, ◌||◌, [], ◌∷◌, ◌++◌, length, get_or, sym, refl, ap, ◌∙◌, ⊎_elim, zero-add, add-zero, arith}
 use Rattle.std.specs.List.{list_any, range_with_len}
 use Rattle.std.proofs.lemmas.List.{length-append, get_or_append_left, get_or_push}
-use Rattle.std.proofs.lemmas.Bool.{cases_eq, or_parts, or_left, or_right}
+use Rattle.std.proofs.lemmas.Bool.{cases_eq, or_parts}
 use Rattle.flatcard.specs.Verbs.{any, range}
-
--- one that passes is enough
-pub any_here : (n : ℕ) (p : ℕ → Bool) (i : ℕ) → i < n → p i ≡ true → any n p ≡ true
-any_here zero p i l e = absurd (omega arith)
-any_here (suc n) p i l e = ⊎_elim
-    (λ (h : i ≡ n). or_left (p n) (any n p) (sym (ap p h) ∙ e))
-    (λ (h : i ≡ n → ⊥). or_right (p n) (any n p) (any_here n p i (omega arith) e))
-    (cases_eq i n)
-
--- none passes if one more does not
-pub any_more : (n : ℕ) (p : ℕ → Bool) → any n p ≡ false → p n ≡ false → any (n + 1) p ≡ false
-any_more n p e h = rw add-one (λ i. h i || e i)
 
 -- if none passes, each does not
 pub any_each : (n : ℕ) (p : ℕ → Bool) → any n p ≡ false → (i : ℕ) → i < n → p i ≡ false

@@ -23,10 +23,6 @@ use Rattle.zones.specs.Geometries.{Fitting, geometry_of}
 use Rattle.zones.specs.IntactBooks.{IntactFormed}
 use Rattle.zones.proofs.NoZones.{no_zones}
 
--- a stretch of a row that is full from its start on
-whole_row : (stretch : List ℕ) (n : ℕ) → length stretch ≡ n → elements (record { front = 0; count = n }) stretch ≡ stretch
-whole_row stretch n e = take_at stretch stretch n e
-
 module _ (m : Memory) (b : Book) (g' : Geometry) (begun : Begun b g') where
   abbrev g : Geometry
   g = b.geometry
@@ -73,7 +69,7 @@ module _ (m : Memory) (b : Book) (g' : Geometry) (begun : Begun b g') where
     full_row =
         ap (λ rows. elements (get_or rows k no_row) (stretch k)) begun.rows
         ∙ ap (λ row. elements row (stretch k)) (get_or-replicate 16 k (record { front = 0; count = g.blocks }) no_row (omega (arith, g.fits.rows)))
-        ∙ whole_row (stretch k) g.blocks stretch_long
+        ∙ take_at (stretch k) (stretch k) g.blocks stretch_long
         ∙ stretch_is
 
   row_is : (k : ℕ) → row_of b k ≡ cond (ltb k g.chips) (range g.blocks) []
@@ -111,8 +107,8 @@ module _ (m : Memory) (limit width : ℕ) (g : Geometry) (fit : Fitting m limit 
   accepted : form unformed limit width (survey m) ≡ form_card (survey m) limit width
   accepted = not_refused (first (form_checks (survey m) limit width)) (form_card (survey m) limit width) _ (λ i. cond (fit.fits i) 13 (cond (blank_is i) 14 0))
 
-  pub form_is : (o : Option Book) → is_some o ≡ false → form (flat_of m o) limit width (survey m) ≡ (done 0 0 0, formed (card_of m b))
-  form_is None e = accepted ∙ ap (λ c. (done 0 0 0, formed c)) (sym (card_is m b g begun ∙ ap (new_card (survey m)) fits))
+  pub form_is : (o : Option Book) → is_some o ≡ false → formed (card_of m b) ≡ (form (flat_of m o) limit width (survey m)).1
+  form_is None e = sym (ap (λ r. r.1) accepted ∙ ap formed (sym (card_is m b g begun ∙ ap (new_card (survey m)) fits)))
   form_is (Some _) e = absurd (false≢true (sym e))
 
   -- the chip groups make up the banks
