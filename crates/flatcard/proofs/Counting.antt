@@ -12,7 +12,7 @@ any_each (suc n) p e i l =
     let both = or_parts (p n) (any n p) e in
     ⊎_elim (λ (h : i ≡ n). ap p h ∙ both.0) (λ (h : i ≡ n → ⊥). any_each n p both.1 i (omega arith)) (cases_eq i n)
 
--- the test of the numbers in a row, from the front
+-- the number that is tested last, tested first
 any_front : (n : ℕ) (p : ℕ → Bool) → any (suc n) p ≡ (p 0 || any n (λ i. p (suc i)))
 any_front zero p = refl
 any_front (suc n) p = ap (λ b. p (suc n) || b) (any_front n p) ∙ swapped (p (suc n)) (p 0) (any n (λ i. p (suc i)))
@@ -30,6 +30,7 @@ any_from (suc n) a p =
     ∙ ap (λ b. p b || any n (λ i. p (a + suc i))) (sym (add-zero a))
     ∙ sym (any_front n (λ i. p (a + i)))
 
+-- some number of the list of those below n passes
 pub any_list : (n : ℕ) (p : ℕ → Bool) → list_any p (range_with_len 0 n) ≡ any n p
 any_list n p = any_from n 0 p ∙ ap (any n) (λ t i. p (zero-add i t))
 

@@ -60,7 +60,7 @@ impl<F: Flash> Card<F> {
         if !book.geometry.has_zones(first, list.len()) {
             return Err(CardRefusal::Range);
         }
-        // By index: what is written through a zip with the zones' numbers is not followed.
+        // By index: a proof does not follow what is written through a zip with the zones' numbers.
         for (i, line) in list.iter_mut().enumerate() {
             *line = book.line(first + i);
         }

@@ -47,7 +47,8 @@ impl Zone {
     };
 }
 
-// What a zone needs while it is open or threaded: the page that it is filling, and the map of its kept sectors.
+// What a zone needs while it is open or threaded: the page that it is filling, and the map of its kept sectors, a bit
+// for each sector of the longest zone.
 #[derive(Clone, Copy)]
 pub struct Slot {
     pub page: [u8; PAGE],
