@@ -10,7 +10,7 @@ use zones::{CardRefusal, Done, ZoneReport};
 fn code(refusal: CardRefusal) -> usize
     ensures { result ≡ refusal_number refusal - 10 }
 {
-    refusal.number() - 10
+    usize::from(refusal) - 10
 }
 
 // What a call answers that may do work on the flash.
@@ -27,7 +27,7 @@ pub fn show_answer(heap: Global, reply: Result<Done, CardRefusal>) -> Result<Str
 fn show_zone(heap: Global, zone: ZoneReport) -> Result<String, AllocError>
     ensures { IfOk result (λ s. string_bytes s ≡ line_text (line_of zone)) }
 {
-    format!(in heap; " {}/{}", zone.state.number(), zone.pointer)
+    format!(in heap; " {}/{}", usize::from(zone.state), zone.pointer)
 }
 
 // An accepted report: 0 and then its zones.
