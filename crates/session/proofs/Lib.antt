@@ -1,4 +1,3 @@
-mod Caps
-mod Letters
 mod Splits
-mod Texts
+mod Numerals
+mod Counts

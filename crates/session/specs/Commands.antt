@@ -1,38 +1,34 @@
 -- The commands that lines write.
-use Rattle.std.specs.Prelude.{ℕ, cond, List, [], ◌∷◌, Some, None, codes, Option, nat_le}
+use Rattle.std.specs.Prelude.{ℕ, zero, suc, cond, List, [], ◌∷◌, Some, None, codes, Option, option_and_then, nat_le, slice_index}
+use Rattle.std.specs.Option.{option_map}
 use Rattle.std.specs.Str.{bytes_eq}
 use Rattle.session.specs.Lines.{words}
 use Rattle.session.specs.Numbers.{value}
 use Rattle.session.specs.declared.command.Command.{Command}
 use Rattle.session.specs.declared.command.Command.TheVariants.{Form, Report}
 
--- two values, if both are there
-abbrev pub both : Option ℕ → Option ℕ → Option (ℕ × ℕ)
-both None n = None
-both (Some m) None = None
-both (Some m) (Some n) = Some (m, n)
-
--- the values of words, if they are two and both have one
-abbrev pub two : List (List ℕ) → Option (ℕ × ℕ)
-two [] = None
-two (a ∷ []) = None
-two (a ∷ b ∷ []) = both (value a) (value b)
-two (a ∷ b ∷ c ∷ ws) = None
+-- the values of words, if they are just so many and all have one
+abbrev pub numbers : ℕ → List (List ℕ) → Option (List ℕ)
+numbers zero [] = Some []
+numbers zero (w ∷ ws) = None
+numbers (suc n) [] = None
+numbers (suc n) (w ∷ ws) = option_and_then (λ m. option_map (λ ms. m ∷ ms) (numbers n ws)) (value w)
 
 -- `F limit width`
-abbrev pub form : Option (ℕ × ℕ) → Option Command
-form None = None
-form (Some (limit, width)) = Some (Form limit width)
+abbrev pub form : List ℕ → Option Command
+form ns = Some (Form (slice_index ns 0) (slice_index ns 1))
 
 -- `Q first count`, with a count of at most 4
-abbrev pub report : Option (ℕ × ℕ) → Option Command
-report None = None
-report (Some (first, count)) = cond (nat_le count 4) (Some (Report first count)) None
+abbrev pub report : List ℕ → Option Command
+report ns = cond (nat_le (slice_index ns 1) 4) (Some (Report (slice_index ns 0) (slice_index ns 1))) None
 
 -- the command of the words of a line, which the first of them names
 abbrev pub of_words : List (List ℕ) → Option Command
 of_words [] = None
-of_words (name ∷ args) = cond (bytes_eq name (codes "F")) (form (two args)) (cond (bytes_eq name (codes "Q")) (report (two args)) None)
+of_words (name ∷ args) =
+    cond (bytes_eq name (codes "F")) (option_and_then form (numbers 2 args))
+    (cond (bytes_eq name (codes "Q")) (option_and_then report (numbers 2 args))
+    None)
 
 -- the command that a line writes
 abbrev pub command_of : List ℕ → Option Command

@@ -1,11 +1,14 @@
 -- What a session answers a line with, and the card after it, as the flat card has both.
-use Rattle.std.specs.Prelude.{ℕ, ◌-◌, List, ◌++◌, replicate, Some, None, codes, decimal, Option}
+use Rattle.std.specs.Prelude.{ℕ, ◌-◌, List, [], ◌++◌, map, replicate, Some, None, Ok, Err, codes, decimal, Option}
 use Rattle.std.specs.List.{flat_map}
 use Rattle.flash.specs.Tables.{unless_refused}
 use Rattle.flatcard.specs.Calls.{form, report}
 use Rattle.flatcard.specs.Card.{Answer, refused, done, Flat, Line, Survey}
+use Rattle.zones.specs.Numbers.{answer_of, line_of, refusal_number}
 use Rattle.session.specs.declared.command.Command.{Command}
 use Rattle.session.specs.declared.command.Command.TheVariants.{Form, Report}
+use Rattle.session.specs.declared.reply.Reply.{Reply}
+use Rattle.session.specs.declared.reply.Reply.TheVariants.{Unknown, Work, Zones}
 
 -- the text of an answer: a refusal's number less 10, or 0 and then what was done
 abbrev pub answer_text : Answer → List ℕ
@@ -23,6 +26,13 @@ lines_text ls = flat_map line_text ls
 -- the text of a report: 0 and then its lines, or a refusal's number less 10
 abbrev pub report_text : ℕ × List Line → List ℕ
 report_text r = unless_refused r.0 (codes "0" ++ lines_text r.1) (decimal (r.0 - 10))
+
+-- the text of a reply
+abbrev pub shown : Reply → List ℕ
+shown Unknown = codes "?"
+shown (Work answer) = answer_text (answer_of answer)
+shown (Zones (Ok zones)) = report_text (0, map line_of zones.items)
+shown (Zones (Err refusal)) = report_text (refusal_number refusal, [])
 
 -- a line of the list that a report is asked to fill. Any would do: an accepted report writes over each, a refused one is shown without its lines
 abbrev pub fresh_line : Line

@@ -1,6 +1,7 @@
 // The commands of a session, one to a line.
 ghost use Rattle.std.specs.Prelude.{◌≡◌};
-ghost use Rattle.session.specs.Commands.{command_of, form, report, two};
+ghost use Rattle.std.specs.Result.{result_ok};
+ghost use Rattle.session.specs.Commands.{command_of, numbers};
 ghost use Rattle.session.specs.Lines.{words_left};
 
 use crate::number::number;
@@ -12,45 +13,46 @@ pub enum Command {
     Report { first: usize, count: usize },
 }
 
-// The numbers that are left of a line, where there are just two and nothing else.
-fn pair(mut rest: Words) -> Option<(usize, usize)>
-    ensures { result ≡ two (words_left rest.entry) }
+// A line that writes no command.
+#[derive(Clone, Copy, PartialEq, Eq, Debug)]
+pub struct NoCommand;
+
+// The numbers that are left of a line, where there are just so many and nothing else.
+fn numbers<const N: usize>(mut words: Words) -> Option<[usize; N]>
+    ensures { result ≡ numbers N (words_left words.entry) }
 {
-    let a = number(rest.next()?)?;
-    let b = number(rest.next()?)?;
-    match rest.next() {
-        None => Some((a, b)),
+    let mut found = [0; N];
+    for n in found.iter_mut() {
+        *n = number(words.next()?)?;
+    }
+    match words.next() {
+        None => Some(found),
         Some(_) => None,
     }
 }
 
-// `F limit width`, after its letter.
-fn to_form(rest: Words) -> Option<Command>
-    ensures { result ≡ form (two (words_left rest.entry)) }
-{
-    let (limit, width) = pair(rest)?;
-    Some(Command::Form { limit, width })
-}
+// The command that a line writes: a letter, and then its numbers.
+impl<'a> TryFrom<&'a [u8]> for Command {
+    type Error = NoCommand;
 
-// `Q first count`, after its letter: it asks for at most four.
-fn to_report(rest: Words) -> Option<Command>
-    ensures { result ≡ report (two (words_left rest.entry)) }
-{
-    let (first, count) = pair(rest)?;
-    if count > 4 {
-        return None;
-    }
-    Some(Command::Report { first, count })
-}
+    ghost try_from_gives = { λ line r. result_ok r ≡ command_of line.now };
 
-// The command that a line writes, if it writes one.
-pub fn parse(line: &[u8]) -> Option<Command>
-    ensures { result ≡ command_of line.now }
-{
-    let mut rest = Words::new(line);
-    match rest.next()? {
-        b"F" => to_form(rest),
-        b"Q" => to_report(rest),
-        _ => None,
+    fn try_from(line: &'a [u8]) -> Result<Self, NoCommand> {
+        let mut words = Words::new(line);
+        match words.next() {
+            Some(b"F") => {
+                let [limit, width] = numbers::<2>(words).ok_or(NoCommand)?;
+                Ok(Command::Form { limit, width })
+            }
+            // at most four zones may be asked
+            Some(b"Q") => {
+                let [first, count] = numbers::<2>(words).ok_or(NoCommand)?;
+                if count > 4 {
+                    return Err(NoCommand);
+                }
+                Ok(Command::Report { first, count })
+            }
+            _ => Err(NoCommand),
+        }
     }
 }

@@ -7,6 +7,6 @@ pub mod reply;
 pub mod run;
 pub mod words;
 
-pub use command::parse;
-pub use reply::{show_answer, show_report};
+pub use command::{Command, NoCommand};
+pub use reply::Reply;
 pub use run::answer;

@@ -1,27 +1,23 @@
 // The numbers of a line.
 ghost use Rattle.std.specs.Prelude.{◌≡◌};
-ghost use Rattle.session.specs.Numbers.{digit_value, value};
+ghost use Rattle.session.specs.Numbers.{numeral, value};
 
-// The value of a decimal digit.
-fn digit(b: u8) -> Option<usize>
-    ensures { result ≡ digit_value b }
+use std::str;
+
+// Whether a word has one decimal digit or more and nothing else.
+fn is_numeral(word: &[u8]) -> bool
+    ensures { result ≡ numeral word.now }
 {
-    match b {
-        b'0'..=b'9' => Some((b - b'0') as usize),
-        _ => None,
-    }
+    !word.is_empty() && word.iter().all(|b| b.is_ascii_digit())
 }
 
 // The value of a word of digits, or the largest `usize` where that is too small for it.
 pub fn number(word: &[u8]) -> Option<usize>
     ensures { result ≡ value word.now }
 {
-    if word.is_empty() {
+    if !is_numeral(word) {
         return None;
     }
-    let mut n: usize = 0;
-    for b in word {
-        n = n.saturating_mul(10).saturating_add(digit(*b)?);
-    }
-    Some(n)
+    // digits alone fail to parse only where there are too many
+    Some(str::from_utf8(word).ok()?.parse().unwrap_or(usize::MAX))
 }

@@ -1,8 +1,7 @@
 // The words of a line of bytes.
-ghost use Rattle.std.specs.Prelude.{◌≡◌};
-ghost use Rattle.std.specs.Option.{option_map};
-ghost use Rattle.std.specs.List.{prefix_len};
-ghost use Rattle.session.specs.Lines.{first_word, of_kind, other_words, white, words, words_left};
+ghost use Rattle.std.specs.Prelude.{◌≡◌, not, position};
+ghost use Rattle.std.specs.Iterator.{YieldsFirstRef, item_count};
+ghost use Rattle.session.specs.Lines.{white, words, words_left};
 
 // What is left of a line, from which words are taken one by one.
 #[derive(Drop)]
@@ -17,16 +16,18 @@ fn is_white(b: u8) -> bool
     matches!(b, b'\t'..=b'\r' | b' ')
 }
 
-// How many bytes at the front are white space, where `space` is true, or are none, where it is false.
-fn run(bytes: &[u8], space: bool) -> usize
-    ensures { result ≡ prefix_len (of_kind space) bytes.now }
+// Where the first word of a line starts, if it has one.
+fn start(line: &[u8]) -> Option<usize>
+    ensures { result ≡ position (λ b. not (white b)) line.now }
 {
-    for (i, b) in bytes.iter().enumerate() {
-        if is_white(*b) != space {
-            return i;
-        }
-    }
-    bytes.len()
+    line.iter().position(|b| !is_white(*b))
+}
+
+// Where the word at the front of a line ends, if white space follows it.
+fn end(line: &[u8]) -> Option<usize>
+    ensures { result ≡ position white line.now }
+{
+    line.iter().position(|b| is_white(*b))
 }
 
 impl<'a> Words<'a> {
@@ -36,15 +37,19 @@ impl<'a> Words<'a> {
     {
         Words { rest: line }
     }
+}
 
-    // The next word, which is taken off.
-    pub fn next(&mut self) -> Option<&'a [u8]>
-        ensures word { option_map (λ x. x.now) result ≡ first_word (words_left self.old) }
-        ensures rest { words_left self.new ≡ other_words (words_left self.old) }
-    {
-        let (_, line) = self.rest.split_at(run(self.rest, true));
-        let (word, rest) = line.split_at(run(line, false));
+impl<'a> Iterator for Words<'a> {
+    type Item = &'a [u8];
+
+    ghost next_gives = { YieldsFirstRef words_left };
+
+    ghost remaining = { item_count words_left };
+
+    fn next(&mut self) -> Option<&'a [u8]> {
+        let line = &self.rest[start(self.rest)?..];
+        let (word, rest) = line.split_at(end(line).unwrap_or(line.len()));
         self.rest = rest;
-        if word.is_empty() { None } else { Some(word) }
+        Some(word)
     }
 }
