@@ -1,11 +1,19 @@
 -- How the start and the end of a line's first word cut it off.
-use Rattle.std.proofs.Common.{◌≡◌, ℕ, ◌+◌, ◌<◌, ◌≤◌, Bool, true, false, cond, not, List, [], ◌∷◌, filter, length, nat_lt, get_or, take, drop, Some, None, position, sym, refl, ap, ◌∙◌, one-add, arith, inl, inr, ltb-false, lt-ltb, add-zero, unwrap_or, Option, ◌-◌}
+use Rattle.std.proofs.Common.{◌≡◌, ℕ, ◌+◌, ◌-◌, ◌<◌, ◌≤◌, Bool, true, false, cond, not, List, [], ◌∷◌, filter, length, nat_lt, get_or, take, drop, Some, None, Option, position, unwrap_or, inl, inr, refl, sym, ap, ◌∙◌, add-zero, one-add, arith, lt-ltb, ltb-false}
 use Rattle.std.proofs.lemmas.Bool.{cases_Bool}
 use Rattle.std.proofs.lemmas.List.{drop_all, get_or-drop, length-drop, take_all}
 use Rattle.std.proofs.lemmas.List.Quantifiers.{position-Some}
 use Rattle.std.proofs.lemmas.List.Sums.{prefix_len-le-length}
-use Rattle.std.specs.List.{onto_first, position_or_len, slice_split}
+use Rattle.std.specs.List.{position_or_len, slice_split}
 use Rattle.session.specs.Lines.{white, words}
+
+-- the place that `position` gives, or the length where it gives none
+or_len : (p : ℕ → Bool) (bs : List ℕ) (o : Option ℕ) → o ≡ position p bs → unwrap_or o (length bs) ≡ position_or_len p bs
+or_len p bs o e =
+    elim (cases_Bool (nat_lt (position_or_len p bs) (length bs))) [
+      | inl h ↦ rw (e, h) refl
+      | inr h ↦ rw (e, h) (omega (arith, ltb-false, prefix_len-le-length (λ b. not (p b)) bs))
+    ]
 
 -- how many bytes stand before the first word, and how many a word at the front has
 abbrev start : List ℕ → ℕ
@@ -50,39 +58,24 @@ front (b ∷ bs) h e =
     ap (filter (λ w. nat_lt 0 (length w))) p.split ∙ kept (take (end (b ∷ bs)) (b ∷ bs)) p.parts some ∙ ap (λ ws. take (end (b ∷ bs)) (b ∷ bs) ∷ ws) p.left
 
 -- a line with nothing but white space
-pub no_word : (bs : List ℕ) → position (λ b. not (white b)) bs ≡ None → words bs ≡ []
-no_word bs e =
-    elim (cases_Bool (nat_lt (start bs) (length bs))) [
-      | inl h ↦ let z : Some (start bs) ≡ None = rw h at e in cc
-      | inr h ↦ sym (trimmed_words bs) ∙ ap words (drop_all (start bs) bs (omega (arith, ltb-false)))
-    ]
+pub no_word : (bs : List ℕ) → None ≡ position (λ b. not (white b)) bs → words bs ≡ []
+no_word bs e = sym (trimmed_words bs) ∙ ap words (drop_all (start bs) bs (omega (arith, or_len _ bs None e)))
 
--- a line whose first word starts at n and has m bytes
-module _ (bs : List ℕ) {line : List ℕ} {n m : ℕ} {stop : Option ℕ} (at : position (λ b. not (white b)) bs ≡ Some n) (left : line ≡ take (length bs - n) (drop n bs)) (found : stop ≡ position white line) (long : m ≡ unwrap_or stop (length line)) where
-  left_is : line ≡ drop n bs
-  left_is = left ∙ take_all _ _ (omega (arith, length-drop n bs))
+-- a line from its place n on
+abbrev from : ℕ → List ℕ → List ℕ
+from n bs = take (length bs - n) (drop n bs)
 
-  long_is : m ≡ end line
-  long_is =
-      elim (cases_Bool (nat_lt (end line) (length line))) [
-        | inl h ↦ long ∙ ap (λ o. unwrap_or o (length line)) found ∙ rw h refl
-        | inr h ↦ long ∙ ap (λ o. unwrap_or o (length line)) found ∙ rw h (omega (arith, ltb-false, prefix_len-le-length (λ b. not (white b)) line))
-      ]
+-- a word at the front stops inside the line
+pub inside : (line : List ℕ) {stop : Option ℕ} {m : ℕ} → stop ≡ position white line → m ≡ unwrap_or stop (length line) → m ≤ length line
+inside line {stop} e long = omega (arith, or_len white line stop e, prefix_len-le-length (λ b. not (white b)) line)
 
-  pub inside : m ≤ length line
-  inside = omega (arith, long_is, prefix_len-le-length (λ b. not (white b)) line)
-
-  starts : start bs ≡ n
-  starts =
-      elim (cases_Bool (nat_lt (start bs) (length bs))) [
-        | inl h ↦ let z : Some (start bs) ≡ Some n = rw h at at in cc
-        | inr h ↦ let z : None ≡ Some n = rw h at at in cc
-      ]
-
-  pub first_word : {word rest : List ℕ} → word ≡ take m line → rest ≡ drop m line → words bs ≡ word ∷ words rest
-  first_word front_is rest_is =
-      let here = position-Some (λ b. not (white b)) bs n 0 at in
-      let some = front line (omega (arith, ap length left_is, length-drop n bs, here.0)) (rw (left_is, get_or-drop n bs 0 0, add-zero) here.1) in
-      let whole = sym (trimmed_words bs) ∙ ap (λ k. words (drop k bs)) starts ∙ sym (ap words left_is) ∙ some in
-      let same = long_is in
-      cc
+-- a line whose first word starts at n
+pub first_word : (bs : List ℕ) {n m : ℕ} {stop : Option ℕ} {word rest : List ℕ} → Some n ≡ position (λ b. not (white b)) bs → stop ≡ position white (from n bs) → m ≡ unwrap_or stop (length (from n bs)) → word ≡ take m (from n bs) → rest ≡ drop m (from n bs) → words bs ≡ word ∷ words rest
+first_word bs {n} {m} {stop} at e long front_is rest_is =
+    let here = position-Some (λ b. not (white b)) bs n 0 (sym at) in
+    let whole : from n bs ≡ drop n bs = take_all _ _ (omega (arith, length-drop n bs)) in
+    let starts : start bs ≡ n = sym (or_len _ bs (Some n) at) in
+    let ends : m ≡ end (from n bs) = long ∙ or_len white (from n bs) stop e in
+    let some = front (from n bs) (omega (arith, ap length whole, length-drop n bs, here.0)) (rw (whole, get_or-drop n bs 0 0, add-zero) here.1) in
+    let all : words bs ≡ words (from n bs) = sym (trimmed_words bs) ∙ ap (λ k. words (drop k bs)) starts ∙ sym (ap words whole) in
+    cc

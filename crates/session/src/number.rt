@@ -8,7 +8,7 @@ use std::str;
 fn is_numeral(word: &[u8]) -> bool
     ensures { result ≡ numeral word.now }
 {
-    !word.is_empty() && word.iter().all(|b| b.is_ascii_digit())
+    !word.is_empty() && word.iter().all(u8::is_ascii_digit)
 }
 
 // The value of a word of digits, or the largest `usize` where that is too small for it.

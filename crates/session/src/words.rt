@@ -10,24 +10,24 @@ pub struct Words<'a> {
 }
 
 // Whether a byte is ASCII white space. Vertical tab is, though `is_ascii_whitespace` leaves it out.
-fn is_white(b: u8) -> bool
-    ensures { result ≡ white b }
+fn is_white(b: &u8) -> bool
+    ensures { result ≡ white b.now }
 {
-    matches!(b, b'\t'..=b'\r' | b' ')
+    matches!(*b, b'\t'..=b'\r' | b' ')
 }
 
 // Where the first word of a line starts, if it has one.
 fn start(line: &[u8]) -> Option<usize>
     ensures { result ≡ position (λ b. not (white b)) line.now }
 {
-    line.iter().position(|b| !is_white(*b))
+    line.iter().position(|b| !is_white(b))
 }
 
 // Where the word at the front of a line ends, if white space follows it.
 fn end(line: &[u8]) -> Option<usize>
     ensures { result ≡ position white line.now }
 {
-    line.iter().position(|b| is_white(*b))
+    line.iter().position(is_white)
 }
 
 impl<'a> Words<'a> {
