@@ -1,8 +1,7 @@
 -- The steps of the loop that reads so many numbers.
-use Rattle.std.proofs.Common.{◌≡◌, ℕ, suc, ◌+◌, ◌-◌, ◌<◌, ◌≤◌, List, [], ◌∷◌, ◌++◌, length, take, Some, None, Option, refl, sym, ap, append_assoc, append-nil, arith}
+use Rattle.std.proofs.Common.{◌≡◌, ℕ, suc, ◌+◌, ◌-◌, ◌<◌, List, [], ◌∷◌, ◌++◌, length, take, Some, None, Option, refl, sym, ap, append_assoc, arith}
 use Rattle.std.proofs.Math.ListN.{set}
 use Rattle.std.proofs.lemmas.Grind.{take-set_at}
-use Rattle.std.proofs.lemmas.List.{take_all}
 use Rattle.std.specs.Option.{option_map}
 use Rattle.session.specs.Commands.{numbers}
 use Rattle.session.specs.Numbers.{value}
@@ -19,8 +18,3 @@ pub one_more : (all : List ℕ) (i n m : ℕ) (w : List ℕ) (ws left : List (Li
 one_more all i n m w ws left inside some first e =
     let less : n - i ≡ suc (n - (i + 1)) = omega arith in
     rw (first, less, sym e, take-set_at all i (i + 1) m refl inside) (pushed (take i all) m (numbers (n - (i + 1)) left))
-
-pub none_left : (all : List ℕ) (i n : ℕ) (ws : List (List ℕ)) → length all ≤ i → n ≤ i → ws ≡ [] → with_more (take i all) (n - i) ws ≡ Some all
-none_left all i n ws h k e =
-    let less : n - i ≡ 0 = omega arith in
-    rw (e, less, take_all i all h, append-nil) refl

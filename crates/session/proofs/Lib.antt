@@ -1,3 +1,3 @@
-mod Splits
-mod Numerals
 mod Counts
+mod Numerals
+mod Splits

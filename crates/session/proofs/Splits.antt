@@ -1,5 +1,5 @@
 -- How the start and the end of a line's first word cut it off.
-use Rattle.std.proofs.Common.{◌≡◌, ℕ, ◌+◌, ◌-◌, ◌<◌, ◌≤◌, Bool, true, false, cond, not, List, [], ◌∷◌, filter, length, nat_lt, get_or, take, drop, Some, None, Option, position, unwrap_or, inl, inr, refl, sym, ap, ◌∙◌, add-zero, one-add, arith, lt-ltb, ltb-false}
+use Rattle.std.proofs.Common.{◌≡◌, ℕ, ◌+◌, ◌-◌, ◌<◌, Bool, true, false, cond, not, List, [], ◌∷◌, filter, length, nat_lt, get_or, take, drop, Some, None, Option, position, unwrap_or, inl, inr, refl, sym, ap, ◌∙◌, add-zero, one-add, arith, lt-ltb, ltb-false}
 use Rattle.std.proofs.lemmas.Bool.{cases_Bool}
 use Rattle.std.proofs.lemmas.List.{drop_all, get_or-drop, length-drop, take_all}
 use Rattle.std.proofs.lemmas.List.Quantifiers.{position-Some}
@@ -64,10 +64,6 @@ no_word bs e = sym (trimmed_words bs) ∙ ap words (drop_all (start bs) bs (omeg
 -- a line from its place n on
 abbrev from : ℕ → List ℕ → List ℕ
 from n bs = take (length bs - n) (drop n bs)
-
--- a word at the front stops inside the line
-pub inside : (line : List ℕ) {stop : Option ℕ} {m : ℕ} → stop ≡ position white line → m ≡ unwrap_or stop (length line) → m ≤ length line
-inside line {stop} e long = omega (arith, or_len white line stop e, prefix_len-le-length (λ b. not (white b)) line)
 
 -- a line whose first word starts at n
 pub first_word : (bs : List ℕ) {n m : ℕ} {stop : Option ℕ} {word rest : List ℕ} → Some n ≡ position (λ b. not (white b)) bs → stop ≡ position white (from n bs) → m ≡ unwrap_or stop (length (from n bs)) → word ≡ take m (from n bs) → rest ≡ drop m (from n bs) → words bs ≡ word ∷ words rest

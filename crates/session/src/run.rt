@@ -1,15 +1,30 @@
 // A line, run on a card.
-ghost use Rattle.std.specs.Prelude.{◌≡◌, IfOk, string_bytes};
+ghost use Rattle.std.specs.Prelude.{◌≡◌, replicate, IfOk, string_bytes};
+ghost use Rattle.flatcard.specs.Calls.{report};
 ghost use Rattle.zones.specs.Intact.{Intact};
 ghost use Rattle.zones.specs.View.{flat_card, surveyed};
 ghost use Rattle.session.specs.Commands.{command_of};
-ghost use Rattle.session.specs.Replies.{card_after, reply_text, shown};
+ghost use Rattle.session.specs.Replies.{card_after, fresh_line, reply_text, report_text, shown};
 
 use crate::command::{Command, NoCommand};
 use crate::reply::Reply;
 use flash::Flash;
 use std::alloc::{AllocError, Global};
 use zones::{Card, ZoneReport};
+
+// Has the card report so many zones.
+fn report<F: Flash>(
+    heap: Global,
+    card: &Card<F>,
+    first: usize,
+    count: usize,
+) -> Result<Reply, AllocError>
+    ensures { IfOk result (λ reply. shown reply ≡ report_text (report (flat_card F.Flash.memory card.now) first (replicate count fresh_line))) }
+{
+    let mut zones = vec![in heap; ZoneReport::default(); count]?;
+    let answer = card.report(first, zones.as_mut_slice());
+    Ok(Reply::Zones(answer.map(|()| zones)))
+}
 
 // Runs the command that a line writes.
 fn run<F: Flash>(heap: Global, card: &mut Card<F>, line: &[u8]) -> Result<Reply, AllocError>
@@ -21,11 +36,7 @@ fn run<F: Flash>(heap: Global, card: &mut Card<F>, line: &[u8]) -> Result<Reply,
     match Command::try_from(line) {
         Err(NoCommand) => Ok(Reply::Unknown),
         Ok(Command::Form { limit, width }) => Ok(Reply::Work(card.form(limit, width))),
-        Ok(Command::Report { first, count }) => {
-            let mut zones = vec![in heap; ZoneReport::default(); count]?;
-            let answer = card.report(first, zones.as_mut_slice());
-            Ok(Reply::Zones(answer.map(|()| zones)))
-        }
+        Ok(Command::Report { first, count }) => report(heap, card, first, count),
     }
 }
 

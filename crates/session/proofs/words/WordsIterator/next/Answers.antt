@@ -1,12 +1,9 @@
 use Rattle.std.proofs.Common.{length, arith, rules, sym, ap, ◌∙◌}
-use Rattle.session.proofs.Splits.{first_word, inside, no_word}
+use Rattle.session.proofs.Splits.{first_word, no_word}
 use Rattle.session.proofs.words.WordsIterator.next.Goals as goal
 
 pub returns-in_err-line-clause-steps : goal.returns-in_err-line-clause-steps
 returns-in_err-line-clause-steps c = let none = no_word c.args.self.now.rest.now (sym c.in_err-line.was ∙ c.start.ensures) in search rules
-
-pub split_at-requires : goal.split_at-requires
-split_at-requires c = inside _ c.end.ensures c.unwrap_or.ensures
 
 pub returns : goal.returns
 returns c =
