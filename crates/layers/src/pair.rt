@@ -2,7 +2,7 @@
 ghost use Rattle.std.specs.Prelude.{◌≡◌, ◌≤◌, false, MatchOption};
 ghost use Rattle.layers.specs.Paired.{SplitAt, matched, paired, paired_bounds, shapes_matched};
 
-use flash::{Flash, NO_BANKS, Refusal, Shape};
+use flash::{BlockAddress, Flash, NO_BANKS, Refusal, Shape};
 
 #[derive(Drop)]
 pub struct Pair<A, B> {
@@ -59,28 +59,33 @@ impl<A: Flash, B: Flash> Flash for Pair<A, B> {
         }
     }
 
-    fn standing(&self, bank: usize, block: usize) -> Option<usize> {
+    fn standing(&self, at: BlockAddress) -> Option<usize> {
         let low = self.split()?;
-        if bank < low {
-            self.first.standing(bank, block)
+        if at.bank < low {
+            self.first.standing(at)
         } else {
-            self.second.standing(bank - low, block)
+            self.second.standing(BlockAddress {
+                bank: at.bank - low,
+                block: at.block,
+            })
         }
     }
 
-    fn lives(&self, bank: usize, block: usize) -> Option<u16> {
+    fn lives(&self, at: BlockAddress) -> Option<u16> {
         let low = self.split()?;
-        if bank < low {
-            self.first.lives(bank, block)
+        if at.bank < low {
+            self.first.lives(at)
         } else {
-            self.second.lives(bank - low, block)
+            self.second.lives(BlockAddress {
+                bank: at.bank - low,
+                block: at.block,
+            })
         }
     }
 
     fn read(
         &self,
-        bank: usize,
-        block: usize,
+        at: BlockAddress,
         page: usize,
         quarter: usize,
         buffer: &mut [u8],
@@ -88,35 +93,47 @@ impl<A: Flash, B: Flash> Flash for Pair<A, B> {
         let Some(low) = self.split() else {
             return Err(Refusal::Outside);
         };
-        if bank < low {
-            return self.first.read(bank, block, page, quarter, buffer);
+        if at.bank < low {
+            return self.first.read(at, page, quarter, buffer);
         }
-        self.second.read(bank - low, block, page, quarter, buffer)
+        self.second.read(
+            BlockAddress {
+                bank: at.bank - low,
+                block: at.block,
+            },
+            page,
+            quarter,
+            buffer,
+        )
     }
 
-    fn program(
-        &mut self,
-        bank: usize,
-        block: usize,
-        page: usize,
-        bytes: &[u8],
-    ) -> Result<(), Refusal> {
+    fn program(&mut self, at: BlockAddress, page: usize, bytes: &[u8]) -> Result<(), Refusal> {
         let Some(low) = self.split() else {
             return Err(Refusal::Outside);
         };
-        if bank < low {
-            return self.first.program(bank, block, page, bytes);
+        if at.bank < low {
+            return self.first.program(at, page, bytes);
         }
-        self.second.program(bank - low, block, page, bytes)
+        self.second.program(
+            BlockAddress {
+                bank: at.bank - low,
+                block: at.block,
+            },
+            page,
+            bytes,
+        )
     }
 
-    fn erase(&mut self, bank: usize, block: usize) -> Result<(), Refusal> {
+    fn erase(&mut self, at: BlockAddress) -> Result<(), Refusal> {
         let Some(low) = self.split() else {
             return Err(Refusal::Outside);
         };
-        if bank < low {
-            return self.first.erase(bank, block);
+        if at.bank < low {
+            return self.first.erase(at);
         }
-        self.second.erase(bank - low, block)
+        self.second.erase(BlockAddress {
+            bank: at.bank - low,
+            block: at.block,
+        })
     }
 }

@@ -4,7 +4,7 @@ ghost use Rattle.std.specs.Prelude.{◌≡◌, ◌<◌};
 ghost use Rattle.flash.specs.Maps.{mask};
 ghost use Rattle.layers.specs.Whitened.{whitened, whitened_bounds, whitened_run};
 
-use flash::{Flash, PAGE, QUARTER, Refusal, Shape};
+use flash::{BlockAddress, Flash, PAGE, QUARTER, Refusal, Shape};
 
 #[derive(Drop)]
 pub struct Whitener<F> {
@@ -48,25 +48,24 @@ impl<F: Flash> Flash for Whitener<F> {
         self.inner.shape()
     }
 
-    fn standing(&self, bank: usize, block: usize) -> Option<usize> {
-        self.inner.standing(bank, block)
+    fn standing(&self, at: BlockAddress) -> Option<usize> {
+        self.inner.standing(at)
     }
 
-    fn lives(&self, bank: usize, block: usize) -> Option<u16> {
-        self.inner.lives(bank, block)
+    fn lives(&self, at: BlockAddress) -> Option<u16> {
+        self.inner.lives(at)
     }
 
     fn read(
         &self,
-        bank: usize,
-        block: usize,
+        at: BlockAddress,
         page: usize,
         quarter: usize,
         buffer: &mut [u8],
     ) -> Result<(), Refusal> {
-        match self.inner.read(bank, block, page, quarter, buffer) {
+        match self.inner.read(at, page, quarter, buffer) {
             Ok(()) => {
-                whiten(mask_at(bank, block, page, quarter * QUARTER), buffer);
+                whiten(mask_at(at.bank, at.block, page, quarter * QUARTER), buffer);
                 Ok(())
             }
             Err(refusal) => Err(refusal),
@@ -74,23 +73,17 @@ impl<F: Flash> Flash for Whitener<F> {
     }
 
     // What is outside every flash, or no page, is refused below whatever its bytes are.
-    fn program(
-        &mut self,
-        bank: usize,
-        block: usize,
-        page: usize,
-        bytes: &[u8],
-    ) -> Result<(), Refusal> {
-        if bank >= 16 || block >= 64 || page >= 64 || bytes.len() != PAGE {
-            return self.inner.program(bank, block, page, bytes);
+    fn program(&mut self, at: BlockAddress, page: usize, bytes: &[u8]) -> Result<(), Refusal> {
+        if at.bank >= 16 || at.block >= 64 || page >= 64 || bytes.len() != PAGE {
+            return self.inner.program(at, page, bytes);
         }
         let mut stored = [0; PAGE];
         stored.copy_from_slice(bytes);
-        whiten(mask_at(bank, block, page, 0), &mut stored);
-        self.inner.program(bank, block, page, &stored)
+        whiten(mask_at(at.bank, at.block, page, 0), &mut stored);
+        self.inner.program(at, page, &stored)
     }
 
-    fn erase(&mut self, bank: usize, block: usize) -> Result<(), Refusal> {
-        self.inner.erase(bank, block)
+    fn erase(&mut self, at: BlockAddress) -> Result<(), Refusal> {
+        self.inner.erase(at)
     }
 }

@@ -7,7 +7,7 @@ pub mask_at-requires : goal.mask_at-requires
 mask_at-requires g c =
     let s = c.args.self.now.inner in
     let a = c.args in
-    let w = read_within (g.F.Flash.memory s) a.bank a.block a.page a.quarter a.buffer.now (g.F.Flash.bounds s) (sym c.in-Ok.ensures.answer) in
+    let w = read_within (g.F.Flash.memory s) a.at.bank a.at.block a.page a.quarter a.buffer.now (g.F.Flash.bounds s) (sym c.in-Ok.ensures.answer) in
     (w.0, (w.1.0, (w.1.1.0, omega (arith, w.1.1.1))))
 
 pub returns-in-Ok : goal.returns-in-Ok
@@ -16,8 +16,8 @@ returns-in-Ok g c =
     let a = c.args in
     let z = c.in-Ok.ensures.answer in
     record {
-      answer = z ∙ whitened_reads m a.bank a.block a.page a.quarter a.buffer.now;
-      buffer = c.whiten.ensures ∙ whitened_filled m a.bank a.block a.page a.quarter a.buffer.now c.read.new.buffer c.read.ensures.buffer c.mask_at.result z c.mask_at.ensures;
+      answer = z ∙ whitened_reads m a.at.bank a.at.block a.page a.quarter a.buffer.now;
+      buffer = c.whiten.ensures ∙ whitened_filled m a.at.bank a.at.block a.page a.quarter a.buffer.now c.read.new.buffer c.read.ensures.buffer c.mask_at.result z c.mask_at.ensures;
     }
 
 pub returns-in-Err : goal.returns-in-Err
@@ -26,6 +26,6 @@ returns-in-Err g c =
     let a = c.args in
     let z = c.in-Err.ensures.answer in
     record {
-      answer = z ∙ whitened_reads m a.bank a.block a.page a.quarter a.buffer.now;
-      buffer = whitened_unfilled m a.bank a.block a.page a.quarter a.buffer.now c.read.new.buffer c.read.ensures.buffer _ z (number_some c.in-Err.refusal);
+      answer = z ∙ whitened_reads m a.at.bank a.at.block a.page a.quarter a.buffer.now;
+      buffer = whitened_unfilled m a.at.bank a.at.block a.page a.quarter a.buffer.now c.read.new.buffer c.read.ensures.buffer _ z (number_some c.in-Err.refusal);
     }
