@@ -1,9 +1,13 @@
 -- What two flashes hold as one.
-use Rattle.std.specs.Prelude.{◌≡◌, ℕ, ◌+◌, ◌-◌, Bool, true, cond, ◌&&◌, ◌==◌, nat_le, nat_lt}
+use Rattle.std.specs.Prelude.{◌≡◌, ◌+◌, ◌-◌, Bool, true, cond, ◌&&◌, ◌==◌, nat_le, nat_lt, Some, None, Option}
 use Rattle.std.proofs.Common.{sym, subst, ⊎_elim, arith}
 use Rattle.std.proofs.lemmas.Bool.{and_parts, and_cases, cases_lt, cond_both, eqb-true, leb-true, ltb-true, ltb-false, le-ltb, and_left, and_right}
 use Rattle.flash.specs.Memory.{Memory, no_block, no_banks, no_banks_bounds, shape_of, Bounds, SoundBlock}
+use Rattle.flash.specs.declared.BlockAddress.{BlockAddress}
 use Rattle.flash.specs.declared.Shape.{Shape}
+use Rattle.flash.specs.Maps.{address}
+use Rattle.layers.specs.declared.pair.Side.{Side}
+use Rattle.layers.specs.declared.pair.Side.TheVariants.{First, Second}
 
 -- two flashes of these shapes have blocks and pages alike, and no more banks together than a flash may have
 abbrev pub shapes_matched : Shape → Shape → Bool
@@ -25,9 +29,13 @@ joined m n = record {
 abbrev pub paired : Memory → Memory → Memory
 paired m n = cond (matched m n) (joined m n) no_banks
 
--- the two match, and the banks of the second follow the first n
-abbrev pub SplitAt : Memory → Memory → ℕ → Type 0
-SplitAt m m' n = (matched m m' ≡ true) × (n ≡ m.banks)
+-- the shapes of the two, where they match
+abbrev pub matched_shapes : Memory → Memory → Option (Shape × Shape)
+matched_shapes m n = cond (matched m n) (Some (shape_of m, shape_of n)) None
+
+-- on which of the two, where they match, a block of the pair lies, and its address there
+abbrev pub side_of : Memory → Memory → BlockAddress → Option Side
+side_of m n at = cond (matched m n) (Some (cond (nat_lt at.bank m.banks) (First at) (Second (address (at.bank - m.banks) at.block)))) None
 
 -- ---- the bounds, which the trait asks as a member
 module _ (m n : Memory) (bm : Bounds m) (bn : Bounds n) where

@@ -1,6 +1,6 @@
 // Two flashes as one, which may be of different kinds: the banks of the second follow those of the first.
-ghost use Rattle.std.specs.Prelude.{◌≡◌, ◌≤◌, false, MatchOption};
-ghost use Rattle.layers.specs.Paired.{SplitAt, matched, paired, paired_bounds, shapes_matched};
+ghost use Rattle.std.specs.Prelude.{◌≡◌};
+ghost use Rattle.layers.specs.Paired.{matched_shapes, paired, paired_bounds, side_of};
 
 use flash::{BlockAddress, Flash, NO_BANKS, Refusal, Shape};
 
@@ -10,12 +10,11 @@ pub struct Pair<A, B> {
     second: B,
 }
 
-// Whether two flashes of these shapes have blocks and pages alike, and no more banks together than a flash may have.
-fn matched(first: Shape, second: Shape) -> bool
-    requires { (first.banks ≤ 16) × (second.banks ≤ 16) }
-    ensures { result ≡ shapes_matched first second }
-{
-    first.blocks == second.blocks && first.pages == second.pages && first.banks + second.banks <= 16
+// A block of one of the two flashes, at its address there.
+#[derive(Clone, Copy)]
+enum Side {
+    First(BlockAddress),
+    Second(BlockAddress),
 }
 
 impl<A: Flash, B: Flash> Pair<A, B> {
@@ -28,16 +27,29 @@ impl<A: Flash, B: Flash> Pair<A, B> {
         Pair { first, second }
     }
 
-    // How many banks the first has, or none where the two do not match.
-    fn split(&self) -> Option<usize>
-        ensures { MatchOption result (matched (A.Flash.memory self.now.first) (B.Flash.memory self.now.second) ≡ false) (SplitAt (A.Flash.memory self.now.first) (B.Flash.memory self.now.second)) }
+    // The shapes of the two, or none where the pair shows no banks.
+    fn shapes(&self) -> Option<(Shape, Shape)>
+        ensures { result ≡ matched_shapes (A.Flash.memory self.now.first) (B.Flash.memory self.now.second) }
     {
         let first = self.first.shape();
-        if matched(first, self.second.shape()) {
-            Some(first.banks)
+        let second = self.second.shape();
+        let alike = first.blocks == second.blocks && first.pages == second.pages;
+        (alike && first.banks + second.banks <= 16).then_some((first, second))
+    }
+
+    // On which of the two a block of the pair lies, and its address there, or none where the pair shows no banks.
+    fn side(&self, at: BlockAddress) -> Option<Side>
+        ensures { result ≡ side_of (A.Flash.memory self.now.first) (B.Flash.memory self.now.second) at }
+    {
+        let (first, _) = self.shapes()?;
+        Some(if at.bank < first.banks {
+            Side::First(at)
         } else {
-            None
-        }
+            Side::Second(BlockAddress {
+                bank: at.bank - first.banks,
+                ..at
+            })
+        })
     }
 }
 
@@ -47,39 +59,26 @@ impl<A: Flash, B: Flash> Flash for Pair<A, B> {
     ghost bounds = { λ s. paired_bounds (A.Flash.memory s.first) (B.Flash.memory s.second) (A.Flash.bounds s.first) (B.Flash.bounds s.second) };
 
     fn shape(&self) -> Shape {
-        let first = self.first.shape();
-        let second = self.second.shape();
-        if !matched(first, second) {
-            return NO_BANKS;
-        }
-        Shape {
-            banks: first.banks + second.banks,
-            blocks: first.blocks,
-            pages: first.pages,
-        }
+        self.shapes().map_or(
+            NO_BANKS,
+            |(first, second)| Shape {
+                banks: first.banks + second.banks,
+                ..first
+            },
+        )
     }
 
     fn standing(&self, at: BlockAddress) -> Option<usize> {
-        let low = self.split()?;
-        if at.bank < low {
-            self.first.standing(at)
-        } else {
-            self.second.standing(BlockAddress {
-                bank: at.bank - low,
-                block: at.block,
-            })
+        match self.side(at)? {
+            Side::First(at) => self.first.standing(at),
+            Side::Second(at) => self.second.standing(at),
         }
     }
 
     fn lives(&self, at: BlockAddress) -> Option<u16> {
-        let low = self.split()?;
-        if at.bank < low {
-            self.first.lives(at)
-        } else {
-            self.second.lives(BlockAddress {
-                bank: at.bank - low,
-                block: at.block,
-            })
+        match self.side(at)? {
+            Side::First(at) => self.first.lives(at),
+            Side::Second(at) => self.second.lives(at),
         }
     }
 
@@ -90,50 +89,23 @@ impl<A: Flash, B: Flash> Flash for Pair<A, B> {
         quarter: usize,
         buffer: &mut [u8],
     ) -> Result<(), Refusal> {
-        let Some(low) = self.split() else {
-            return Err(Refusal::Outside);
-        };
-        if at.bank < low {
-            return self.first.read(at, page, quarter, buffer);
+        match self.side(at).ok_or(Refusal::Outside)? {
+            Side::First(at) => self.first.read(at, page, quarter, buffer),
+            Side::Second(at) => self.second.read(at, page, quarter, buffer),
         }
-        self.second.read(
-            BlockAddress {
-                bank: at.bank - low,
-                block: at.block,
-            },
-            page,
-            quarter,
-            buffer,
-        )
     }
 
     fn program(&mut self, at: BlockAddress, page: usize, bytes: &[u8]) -> Result<(), Refusal> {
-        let Some(low) = self.split() else {
-            return Err(Refusal::Outside);
-        };
-        if at.bank < low {
-            return self.first.program(at, page, bytes);
+        match self.side(at).ok_or(Refusal::Outside)? {
+            Side::First(at) => self.first.program(at, page, bytes),
+            Side::Second(at) => self.second.program(at, page, bytes),
         }
-        self.second.program(
-            BlockAddress {
-                bank: at.bank - low,
-                block: at.block,
-            },
-            page,
-            bytes,
-        )
     }
 
     fn erase(&mut self, at: BlockAddress) -> Result<(), Refusal> {
-        let Some(low) = self.split() else {
-            return Err(Refusal::Outside);
-        };
-        if at.bank < low {
-            return self.first.erase(at);
+        match self.side(at).ok_or(Refusal::Outside)? {
+            Side::First(at) => self.first.erase(at),
+            Side::Second(at) => self.second.erase(at),
         }
-        self.second.erase(BlockAddress {
-            bank: at.bank - low,
-            block: at.block,
-        })
     }
 }

@@ -1,15 +1,13 @@
-use Rattle.std.proofs.Common.{arith}
+use Rattle.std.proofs.Common.{Some, sym, ap, ◌∙◌}
 use Rattle.flash.specs.Calls.{program_number, written}
-use Rattle.layers.proofs.Carried.{done, told}
-use Rattle.layers.proofs.Joins.{in_first, in_second}
+use Rattle.layers.proofs.Carried.{done}
+use Rattle.layers.proofs.Joins.{in_second}
 use Rattle.layers.proofs.pair.PairFlash.program.Goals as goal
 
-pub returns-then-at-low : goal.returns-then-at-low
-returns-then-at-low g c =
-    let at = in_first (g.A.Flash.memory c.args.self.now.first) (g.B.Flash.memory c.args.self.now.second) c.in-Some.ensures.0 c.args.at.bank c.args.at.block (omega (arith, c.in-Some.ensures.1)) in
-    record { answer = told at (λ s. program_number s c.args.page c.args.bytes.now) _ c.program.ensures.answer; after = done at (λ s. program_number s c.args.page c.args.bytes.now) (λ v. written v c.args.bytes.now) _ c.program.ensures.after }
-
-pub returns : goal.returns
-returns g c =
-    let at = in_second (g.A.Flash.memory c.args.self.now.first) (g.B.Flash.memory c.args.self.now.second) c.in-Some.ensures.0 c.args.at.bank c.args.at.block c.in-Some.low c.in-Some.ensures.1 (omega arith) in
-    record { answer = told at (λ s. program_number s c.args.page c.args.bytes.now) _ c.program-2.ensures.answer; after = done at (λ s. program_number s c.args.page c.args.bytes.now) (λ v. written v c.args.bytes.now) _ c.program-2.ensures.after }
+pub returns-in-Second-clause-after : goal.returns-in-Second-clause-after
+returns-in-Second-clause-after g c =
+    let m = g.A.Flash.memory c.args.self.now.first in
+    let n = g.B.Flash.memory c.args.self.now.second in
+    let bytes = c.args.bytes.now in
+    let side = sym c.side.ensures ∙ (c.in_ok-at.ensures.ok_part ∙ ap Some c.in-Second.is) in
+    done (in_second m n c.args.at c.in-Second.at side) (λ s. program_number s c.args.page bytes) (λ v. written v bytes) _ c.program-in-Second.ensures.after
