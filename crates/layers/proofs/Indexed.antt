@@ -1,7 +1,7 @@
 -- Lists made of the elements and their indices.
-use Rattle.std.proofs.Common.{◌≡◌, ℕ, zero, suc, ◌+◌, ◌<◌, List, [], ◌∷◌, ◌++◌, length, get_or, take, drop, set, sym, refl, ap, ◌∙◌, append_assoc, arith}
-use Rattle.std.proofs.lemmas.List.{drop_more, get_or_at, length-take, set_at, take_more}
-use Rattle.layers.specs.Whitened.{length-indexed, indexed}
+use Rattle.std.proofs.Common.{◌≡◌, ℕ, zero, suc, ◌+◌, ◌<◌, List, [], ◌∷◌, ◌++◌, length, get_or, take, drop, set, refl, ap, ◌∙◌, arith}
+use Rattle.std.proofs.lemmas.Grind.{common_steps}
+use Rattle.layers.specs.Whitened.{indexed}
 
 -- two functions that agree, also where one is counted from another index
 pub indexed_same : {X Y : Type 0} (f g : ℕ → X → Y) (n m : ℕ) (xs : List X) → ((i : ℕ) (x : X) → f (n + i) x ≡ g (m + i) x) → indexed f n xs ≡ indexed g m xs
@@ -29,15 +29,7 @@ pub indexed_push : {X Y : Type 0} (f : ℕ → X → Y) (n m : ℕ) (xs : List X
 indexed_push f n m [] x is = ap (λ j. f j x ∷ []) (omega arith)
 indexed_push f n m (y ∷ xs) x is = ap (λ l. f n y ∷ l) (indexed_push f (suc n) m xs x (omega arith))
 
--- a loop that writes f i x over each element x of xs, which has the index i
-pub indexed_over_more : {X : Type 0} (f : ℕ → X → X) (xs ys : List X) (i : ℕ) (x y : X) → i < length xs → ys ≡ indexed f 0 (take i xs) ++ drop i xs → x ≡ get_or ys i x → y ≡ f i x
-    → set ys i y ≡ indexed f 0 (take (i + 1) xs) ++ drop (i + 1) xs
-indexed_over_more f xs ys i x y lt h is to =
-    let front = indexed f 0 (take i xs) in
-    let held : length (take i xs) ≡ i = omega (arith, length-take i xs) in
-    let long : length front ≡ i = length-indexed f 0 (take i xs) ∙ held in
-    let parts : ys ≡ front ++ get_or xs i x ∷ drop (i + 1) xs = h ∙ ap (λ l. front ++ l) (drop_more xs i x lt) in
-    let read : x ≡ get_or xs i x = is ∙ ap (λ l. get_or l i x) parts ∙ get_or_at front _ _ x i long in
-    let more : indexed f 0 (take (i + 1) xs) ≡ front ++ f i (get_or xs i x) ∷ [] = ap (indexed f 0) (take_more xs i x lt) ∙ indexed_push f 0 i (take i xs) (get_or xs i x) (omega arith) in
-    ap (λ l. set l i y) parts ∙ set_at front _ _ y i long ∙ sym (append_assoc front (y ∷ []) _)
-    ∙ ap (λ l. l ++ drop (i + 1) xs) (ap (λ z. front ++ z ∷ []) (to ∙ ap (f i) read) ∙ sym more)
+-- a loop that writes f i x over each element x, which has the index i: what is done, with what is to come done from there on, stays the same
+pub indexed_step : {X : Type 0} (f : ℕ → X → X) (xs : List X) (i : ℕ) (x y : X) → i < length xs → y ≡ f i (get_or xs i x)
+    → take (i + 1) (set xs i y) ++ indexed f (i + 1) (drop (i + 1) (set xs i y)) ≡ take i xs ++ indexed f i (drop i xs)
+indexed_step f xs i x y lt is = grind (arith, common_steps)

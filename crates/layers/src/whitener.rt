@@ -1,32 +1,30 @@
 // A flash whose pages are stored whitened in the one below: each byte as its exclusive or with a mask,
 // by its position, page, block and bank, so that what is stored has no long runs of equal bits.
-ghost use Rattle.std.specs.Prelude.{◌≡◌, ◌<◌};
+ghost use Rattle.std.specs.Prelude.{◌≡◌};
 ghost use Rattle.flash.specs.Maps.{mask};
 ghost use Rattle.layers.specs.Whitened.{whitened, whitened_bounds, whitened_run};
 
-use flash::{BlockAddress, Flash, PAGE, QUARTER, Refusal, Shape};
+use flash::{BlockAddress, Flash, PAGE, Refusal, Shape};
 
 #[derive(Drop)]
 pub struct Whitener<F> {
     inner: F,
 }
 
-// The mask of a byte.
-fn mask_at(bank: usize, block: usize, page: usize, position: usize) -> u8
-    requires { (bank < 16) × ((block < 64) × ((page < 64) × (position < 2048))) }
-    ensures { result ≡ mask bank block page position }
+// The mask of the first byte of a page, and of each of its quarters too, since they begin at multiples of 256.
+// Each number counts modulo 256, so that no sum is too large, whatever numbers a caller gives.
+fn first_mask(at: BlockAddress, page: usize) -> u8
+    ensures { result ≡ mask at.bank at.block page 0 }
 {
-    ((position + 37 * page + 101 * block + 11 * bank) % 256) as u8
+    ((37 * (page % 256) + 101 * (at.block % 256) + 11 * (at.bank % 256)) % 256) as u8
 }
 
 // Whitens bytes that follow one another in a page, in one pass. The mask of the first is given, and it rises by one with each.
 fn whiten(first: u8, bytes: &mut [u8])
     ensures { bytes.new ≡ whitened_run first bytes.old }
 {
-    let mut mask = first;
-    for byte in bytes.iter_mut() {
-        *byte ^= mask;
-        mask = mask.wrapping_add(1);
+    for (index, byte) in bytes.iter_mut().enumerate() {
+        *byte ^= first.wrapping_add((index % 256) as u8);
     }
 }
 
@@ -39,6 +37,7 @@ impl<F: Flash> Whitener<F> {
     }
 }
 
+#[tactic(auto, using(crate::proofs::Whites::same_counts))]
 impl<F: Flash> Flash for Whitener<F> {
     ghost memory = { λ s. whitened (F.Flash.memory s.inner) };
 
@@ -63,23 +62,17 @@ impl<F: Flash> Flash for Whitener<F> {
         quarter: usize,
         buffer: &mut [u8],
     ) -> Result<(), Refusal> {
-        match self.inner.read(at, page, quarter, buffer) {
-            Ok(()) => {
-                whiten(mask_at(at.bank, at.block, page, quarter * QUARTER), buffer);
-                Ok(())
-            }
-            Err(refusal) => Err(refusal),
-        }
+        self.inner.read(at, page, quarter, buffer)?;
+        whiten(first_mask(at, page), buffer);
+        Ok(())
     }
 
-    // What is outside every flash, or no page, is refused below whatever its bytes are.
+    // What is no page is refused below, whatever its bytes are.
     fn program(&mut self, at: BlockAddress, page: usize, bytes: &[u8]) -> Result<(), Refusal> {
-        if at.bank >= 16 || at.block >= 64 || page >= 64 || bytes.len() != PAGE {
+        let Ok(mut stored) = <[u8; PAGE]>::try_from(bytes) else {
             return self.inner.program(at, page, bytes);
-        }
-        let mut stored = [0; PAGE];
-        stored.copy_from_slice(bytes);
-        whiten(mask_at(at.bank, at.block, page, 0), &mut stored);
+        };
+        whiten(first_mask(at, page), &mut stored);
         self.inner.program(at, page, &stored)
     }
 

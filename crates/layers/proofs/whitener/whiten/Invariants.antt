@@ -1,9 +1,8 @@
 use Rattle.std.proofs.Common.{◌≡◌, ◌+◌, ◌%◌, ◌++◌, take, drop}
-use Rattle.layers.specs.Whitened.{whitened_run}
+use lib.Bits.{bit_xor}
+use Rattle.layers.specs.Whitened.{indexed, whitened_run}
 use Rattle.layers.proofs.whitener.whiten.Given as goal
 
--- the bytes so far are whitened, and the mask is that of the next
-abbrev pub invariant-loop-byte : goal.invariant-loop-byte
-invariant-loop-byte l =
-    (l.bytes ≡ whitened_run l.first (take l.byte-index l.initial.bytes) ++ drop l.byte-index l.initial.bytes)
-    × (l.mask ≡ (l.first + l.byte-index) % 256)
+-- the bytes so far, with those to come whitened from here on
+abbrev pub invariant-loop-index : goal.invariant-loop-index
+invariant-loop-index l = take l.index l.bytes ++ indexed (λ n x. bit_xor x ((l.first + n) % 256)) l.index (drop l.index l.bytes) ≡ whitened_run l.first l.fn.bytes
