@@ -1,14 +1,12 @@
 -- Lists made of the elements and their indices.
-use Rattle.std.proofs.Common.{◌≡◌, ℕ, zero, suc, ◌+◌, ◌<◌, List, [], ◌∷◌, ◌++◌, length, get_or, take, drop, set, refl, ap, ◌∙◌, arith}
+use Rattle.std.proofs.Common.{◌≡◌, ℕ, zero, suc, ◌+◌, ◌<◌, List, [], ◌∷◌, ◌++◌, length, get_or, take, drop, set, refl, ap, arith}
 use Rattle.std.proofs.lemmas.Grind.{common_steps}
 use Rattle.layers.specs.Whitened.{indexed}
 
 -- two functions that agree, also where one is counted from another index
-pub indexed_same : {X Y : Type 0} (f g : ℕ → X → Y) (n m : ℕ) (xs : List X) → ((i : ℕ) (x : X) → f (n + i) x ≡ g (m + i) x) → indexed f n xs ≡ indexed g m xs
+pub indexed_same : {X Y : Type 0} (f g : ℕ → X → Y) (n m : ℕ) (xs : List X) → ((i j : ℕ) (x : X) → i + m ≡ j + n → f i x ≡ g j x) → indexed f n xs ≡ indexed g m xs
 indexed_same f g n m [] h = refl
-indexed_same f g n m (x ∷ xs) h =
-    let first : f n x ≡ g m x = (ap (λ j. f j x) (omega arith) ∙ h 0 x) ∙ ap (λ j. g j x) (omega arith) in
-    λ t. first t ∷ indexed_same f g (suc n) (suc m) xs (λ i y. (ap (λ j. f j y) (omega arith) ∙ h (suc i) y) ∙ ap (λ j. g j y) (omega arith)) t
+indexed_same f g n m (x ∷ xs) h = λ t. h n m x (omega arith) t ∷ indexed_same f g (suc n) (suc m) xs (λ i j y e. h i j y (omega arith)) t
 
 pub indexed_take : {X Y : Type 0} (f : ℕ → X → Y) (n i : ℕ) (xs : List X) → take i (indexed f n xs) ≡ indexed f n (take i xs)
 indexed_take f n zero xs = refl

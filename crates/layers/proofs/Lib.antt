@@ -1,6 +1,5 @@
 mod Carried
 mod Indexed
-mod Joins
 mod ReplacedApart
 mod ReplacedLists
 mod ReplacedRows

@@ -1,5 +1,5 @@
 -- What the calls of a whitened flash see and change.
-use Rattle.std.proofs.Common.{◌≡◌, ℕ, ◌+◌, ◌*◌, ◌%◌, ◌<◌, List, [], ◌∷◌, ◌++◌, length, get_or, take, drop, sym, ap, ◌∙◌, arith}
+use Rattle.std.proofs.Common.{◌≡◌, ℕ, ◌+◌, ◌*◌, ◌%◌, ◌<◌, List, [], length, get_or, take, drop, sym, ap, ◌∙◌, arith}
 use lib.Bits.{bit_xor, xor_assoc, xor_self, xor_zero_r}
 use Rattle.std.proofs.lemmas.Bool.Decides.{nat_tests}
 use Rattle.flash.specs.Calls.{filled, programmed, quarter_of, read_number, spot}
@@ -17,31 +17,32 @@ page_twice b k p xs = indexed_twice (whitened_byte b k p) 0 xs (λ n x. grind (a
 
 -- bytes of a page from the position j on, by the mask of the first of them
 run_is : (b k p j x : ℕ) (xs : List ℕ) → x ≡ mask b k p j → whitened_run x xs ≡ indexed (whitened_byte b k p) j xs
-run_is b k p j x xs is = indexed_same (λ n y. bit_xor y ((x + n) % 256)) (whitened_byte b k p) 0 j xs (λ i y. ap (bit_xor y) (omega (arith, is)))
+run_is b k p j x xs is = indexed_same (λ n y. bit_xor y ((x + n) % 256)) (whitened_byte b k p) 0 j xs (λ n l y e. ap (bit_xor y) (omega (arith, is)))
 
 whitened_quarter : (b k p q : ℕ) (page : List ℕ) → quarter_of (whitened_page b k p page) q ≡ indexed (whitened_byte b k p) (q * 512) (quarter_of page q)
 whitened_quarter b k p q page =
     ap (take 512) (indexed_drop (whitened_byte b k p) 0 (q * 512) (q * 512) page (omega arith)) ∙ indexed_take (whitened_byte b k p) (q * 512) 512 (drop (q * 512) page)
+
+quarter_run : (b k p q x : ℕ) (page : List ℕ) → x ≡ mask b k p 0 → whitened_run x (quarter_of page q) ≡ quarter_of (whitened_page b k p page) q
+quarter_run b k p q x page is = run_is b k p (q * 512) x (quarter_of page q) (omega (arith, is)) ∙ sym (whitened_quarter b k p q page)
 
 module _ (m : Memory) (b k p x : ℕ) (is : x ≡ mask b k p 0) where
   -- the buffer after a read that is not refused, where the read below left `stored` in it
   pub whitened_filled : (q : ℕ) (buffer stored : List ℕ) → 0 ≡ read_number (spot m b k) p q buffer → stored ≡ filled (spot m b k) p q buffer
       → whitened_run x stored ≡ filled (spot (whitened m) b k) p q buffer
   whitened_filled q buffer stored done left =
-      let page = get_or (m.at b k).pages p [] in
-      let stands : p < length (m.at b k).pages = grind (arith, nat_tests) in
-      let shown : get_or ((whitened m).at b k).pages p [] ≡ whitened_page b k p page = get_or-indexed (whitened_page b k) 0 (m.at b k).pages p p [] [] stands (omega arith) in
-      let part : whitened_run x (quarter_of page q) ≡ quarter_of (whitened_page b k p page) q =
-      run_is b k p (q * 512) x (quarter_of page q) (omega arith) ∙ sym (whitened_quarter b k p q page) in
+      let pages = (m.at b k).pages in
+      let page = get_or pages p [] in
+      let stands : p < length pages = grind (arith, nat_tests) in
+      let shown : get_or ((whitened m).at b k).pages p [] ≡ whitened_page b k p page = get_or-indexed (whitened_page b k) 0 pages p p [] [] stands (omega arith) in
+      let part : whitened_run x (quarter_of page q) ≡ quarter_of (whitened_page b k p page) q = quarter_run b k p q x page is in
       grind (arith, nat_tests, length-indexed)
 
   -- the flash after a program, where the whitened bytes went below
   pub whitened_programmed : (m' : Memory) (bytes stored : List ℕ) → stored ≡ whitened_run x bytes → m' ≡ programmed m b k p stored → whitened m' ≡ programmed (whitened m) b k p bytes
   whitened_programmed m' bytes stored run after =
-      let shown = indexed (whitened_page b k) 0 in
       let pages = (m.at b k).pages in
       let back : whitened_page b k p stored ≡ bytes = ap (whitened_page b k p) (run ∙ run_is b k p 0 x bytes is) ∙ page_twice b k p bytes in
-      let pushed : p ≡ length pages → shown (pages ++ stored ∷ []) ≡ shown pages ++ bytes ∷ [] =
-      λ e. indexed_push (whitened_page b k) 0 p pages stored (omega arith) ∙ ap (λ y. shown pages ++ y ∷ []) back in
+      let pushed = λ (next : p ≡ length pages). indexed_push (whitened_page b k) 0 p pages stored (omega arith) in
       let long : length stored ≡ length bytes = ap length run ∙ length-indexed (λ n y. bit_xor y ((x + n) % 256)) 0 bytes in
       grind (arith, nat_tests, length-indexed)

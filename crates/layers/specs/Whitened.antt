@@ -1,6 +1,6 @@
 -- What a flash holds whose pages are stored whitened.
 use Rattle.std.specs.Prelude.{◌≡◌, ℕ, zero, suc, ◌+◌, ◌%◌, ◌<◌, List, [], ◌∷◌, length, bit_xor, slice_index_or, refl}
-use Rattle.std.proofs.Common.{◌∙◌, ap, arith}
+use Rattle.std.proofs.Common.{ap, arith}
 use Rattle.flash.specs.Maps.{whitened_byte}
 use Rattle.flash.specs.Memory.{Block, Bounds, Memory, SoundBlock}
 
@@ -36,14 +36,13 @@ get_or-indexed f n (z ∷ xs) zero m x y h is = ap (λ j. f j z) (omega arith)
 get_or-indexed f n (z ∷ xs) (suc i) m x y h is = get_or-indexed f (suc n) xs i m x y (omega arith) (omega arith)
 
 whitened_sound : (b k depth : ℕ) (v : Block) → SoundBlock depth v → SoundBlock depth (whitened_block b k v)
-whitened_sound b k depth v s =
-    let e = length-indexed (whitened_page b k) 0 v.pages in
-    record {
-      standing = omega (arith, e, s.standing);
-      long = λ p h. let l : p < length v.pages = omega (arith, e) in
-          ap length (get_or-indexed (whitened_page b k) 0 v.pages p p [] [] l (omega arith)) ∙ (length-indexed (whitened_byte b k p) 0 (slice_index_or v.pages p []) ∙ s.long p l);
-      lives = s.lives;
-    }
+whitened_sound b k depth v s = record {
+  standing = grind (arith, length-indexed);
+  long = λ p h.
+      let l : p < length v.pages = grind (arith, length-indexed) in
+      rw (get_or-indexed (whitened_page b k) 0 v.pages p p [] [] l (omega arith), length-indexed) (s.long p l);
+  lives = s.lives;
+}
 
 pub whitened_bounds : (m : Memory) → Bounds m → Bounds (whitened m)
 whitened_bounds m bm = record {
