@@ -2,11 +2,12 @@
 use Rattle.std.proofs.Common.{◌≡◌, ℕ, zero, suc, ◌+◌, ◌-◌, ◌<◌, ◌≤◌, Bool, true, false, cond, not, List, length, get_or, ap, ◌∙◌, ⊎_elim, zero-add, arith}
 use Rattle.std.proofs.lemmas.List.{length_push}
 use Rattle.std.proofs.lemmas.Bool.{cases_Bool, cases_lt, cond-false, cond-true}
+use Rattle.flash.specs.declared.BlockAddress.{BlockAddress}
 use Rattle.flash.specs.Maps.{chosen, is_bad, replaced_block}
 use Rattle.layers.proofs.ReplacedLists.{Enough, chosen_begins, chosen_next, chosen_rises, chosen_with, chosen_without}
 
 -- ---- the blocks that are chosen rise
-module _ (which : Bool) (pairs : List (ℕ × ℕ)) (bank from : ℕ) where
+module _ (which : Bool) (pairs : List BlockAddress) (bank from : ℕ) where
   -- the last of them, where the last block is one
   chosen_last : (n i : ℕ) → length (chosen which pairs bank from n) ≤ i → i < length (chosen which pairs bank from (suc n))
       → (i ≡ length (chosen which pairs bank from n)) × (get_or (chosen which pairs bank from (suc n)) i 0 ≡ from + n)
@@ -36,7 +37,7 @@ module _ (which : Bool) (pairs : List (ℕ × ℕ)) (bank from : ℕ) where
       (cases_lt j (length (chosen which pairs bank from n)))
 
 -- ---- the places of a bank with good spares enough
-module _ (blocks spares : ℕ) (pairs : List (ℕ × ℕ)) (bank : ℕ) (fits : spares ≤ blocks) (enough : Enough blocks spares pairs bank) where
+module _ (blocks spares : ℕ) (pairs : List BlockAddress) (bank : ℕ) (fits : spares ≤ blocks) (enough : Enough blocks spares pairs bank) where
   -- the bad blocks before a block
   abbrev before : ℕ → ℕ
   before k = length (chosen true pairs bank 0 k)

@@ -4,18 +4,19 @@ use mathlib.Core.Bool.{beq}
 use Rattle.std.proofs.lemmas.List.{at_drop_more, get_or_append_left, get_or_push, length-append, length_push}
 use Rattle.std.proofs.lemmas.Bool.{and_parts, cases_lt, cond-false, cond-true, leb-true, le-leb, ltb-true}
 use Rattle.std.proofs.lemmas.Bool.Decides.{Decides-below_and}
-use Rattle.flash.specs.Maps.{chosen, is_bad}
+use Rattle.flash.specs.declared.BlockAddress.{BlockAddress}
+use Rattle.flash.specs.Maps.{address, chosen, is_bad}
 use Rattle.layers.specs.Replaced.{bank_enough, enough, listed, replaceable}
 
 -- ---- the pairs from i on, by the pair i
-pub is_bad_step : (pairs : List (ℕ × ℕ)) (i bank block : ℕ) → i < length pairs
-    → is_bad (drop i pairs) bank block ≡ ((eqb (get_or pairs i (0, 0)).0 bank && eqb (get_or pairs i (0, 0)).1 block) || is_bad (drop (i + 1) pairs) bank block)
-is_bad_step pairs i bank block h = at_drop_more (λ x. is_bad x bank block) pairs i (0, 0) h
+pub is_bad_step : (pairs : List BlockAddress) (i bank block : ℕ) → i < length pairs
+    → is_bad (drop i pairs) bank block ≡ ((eqb (get_or pairs i (address 0 0)).bank bank && eqb (get_or pairs i (address 0 0)).block block) || is_bad (drop (i + 1) pairs) bank block)
+is_bad_step pairs i bank block h = at_drop_more (λ x. is_bad x bank block) pairs i (address 0 0) h
 
-pub listed_step : (banks blocks i : ℕ) (pairs : List (ℕ × ℕ)) → i < length pairs → let pair = get_or pairs i (0, 0) in
+pub listed_step : (banks blocks i : ℕ) (pairs : List BlockAddress) → i < length pairs → let at = get_or pairs i (address 0 0) in
     listed banks blocks (drop i pairs) ≡
-    (ltb pair.0 banks && (ltb pair.1 blocks && (not (is_bad (drop (i + 1) pairs) pair.0 pair.1) && listed banks blocks (drop (i + 1) pairs))))
-listed_step banks blocks i pairs h = at_drop_more (listed banks blocks) pairs i (0, 0) h
+    (ltb at.bank banks && (ltb at.block blocks && (not (is_bad (drop (i + 1) pairs) at.bank at.block) && listed banks blocks (drop (i + 1) pairs))))
+listed_step banks blocks i pairs h = at_drop_more (listed banks blocks) pairs i (address 0 0) h
 
 -- ---- one block more
 pub wanted : (t which u : Bool) → beq t which ≡ u → cond t which (not which) ≡ u
@@ -24,7 +25,7 @@ wanted true false u e = e
 wanted false true u e = e
 wanted false false u e = e
 
-module _ (which : Bool) (pairs : List (ℕ × ℕ)) (bank from n : ℕ) where
+module _ (which : Bool) (pairs : List BlockAddress) (bank from n : ℕ) where
   pub chosen_with : cond (is_bad pairs bank (from + n)) which (not which) ≡ true
       → chosen which pairs bank from (suc n) ≡ chosen which pairs bank from n ++ (from + n) ∷ []
   chosen_with e = ap (λ xs. chosen which pairs bank from n ++ xs) (cond-true _ ((from + n) ∷ []) [] e)
@@ -41,7 +42,7 @@ module _ (which : Bool) (pairs : List (ℕ × ℕ)) (bank from n : ℕ) where
       → length (chosen which pairs bank from (n + 1)) ≡ length (chosen which pairs bank from n)
   counted_without e = ap (λ i. length (chosen which pairs bank from i)) (add-one n) ∙ ap length (chosen_without e)
 
-module _ (which : Bool) (pairs : List (ℕ × ℕ)) (bank from : ℕ) where
+module _ (which : Bool) (pairs : List BlockAddress) (bank from : ℕ) where
   -- no more are chosen than there are
   pub chosen_few : (n : ℕ) → length (chosen which pairs bank from n) ≤ n
   chosen_few zero = omega arith
@@ -77,16 +78,16 @@ module _ (which : Bool) (pairs : List (ℕ × ℕ)) (bank from : ℕ) where
       ∙ (ap (λ xs. get_or xs i 0) more ∙ get_or_push (chosen which pairs bank from n) (from + n) 0 i (sym e))
 
 -- ---- one bank more
-abbrev pub Enough : ℕ → ℕ → List (ℕ × ℕ) → ℕ → Type 0
+abbrev pub Enough : ℕ → ℕ → List BlockAddress → ℕ → Type 0
 Enough blocks spares pairs bank = length (chosen true pairs bank 0 (blocks - spares)) ≤ length (chosen false pairs bank (blocks - spares) spares)
 
-module _ (blocks spares : ℕ) (pairs : List (ℕ × ℕ)) where
+module _ (blocks spares : ℕ) (pairs : List BlockAddress) where
   pub enough_decides : (n : ℕ) → Decides (enough blocks spares pairs n) ((bank : ℕ) → bank < n → Enough blocks spares pairs bank)
   enough_decides n =
       Decides-below_and (bank_enough blocks spares pairs) (Enough blocks spares pairs) (enough blocks spares pairs) (λ bank. (leb-true _ _, le-leb _ _)) refl (λ _. refl) n
 
 -- what is known where the bad blocks can be replaced
-pub replaceable_true : (banks blocks spares : ℕ) (pairs : List (ℕ × ℕ)) → replaceable banks blocks spares pairs ≡ true
+pub replaceable_true : (banks blocks spares : ℕ) (pairs : List BlockAddress) → replaceable banks blocks spares pairs ≡ true
     → (spares < blocks) × ((bank : ℕ) → bank < banks → Enough blocks spares pairs bank)
 replaceable_true banks blocks spares pairs e =
     let x = and_parts (leb spares 8) (ltb spares blocks && (leb (length pairs) 32 && (listed banks blocks pairs && enough blocks spares pairs banks))) e in

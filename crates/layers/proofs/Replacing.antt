@@ -4,6 +4,7 @@ use Rattle.std.proofs.lemmas.Bool.{cond-true}
 use Rattle.std.proofs.lemmas.Bool.Decides.{nat_tests}
 use Rattle.flash.proofs.Calls.{same_memory, same_spot}
 use Rattle.flash.specs.Calls.{spot, with_block}
+use Rattle.flash.specs.declared.BlockAddress.{BlockAddress}
 use Rattle.flash.specs.Memory.{Block, Memory, no_banks, shape_of}
 use Rattle.layers.specs.ReplacedPlaces.{Found, place_of, relocated, shown_by, shows, shows_true, swapped}
 use Rattle.layers.specs.declared.replacer.places.Places.{Places}
@@ -17,8 +18,17 @@ module _ (blocks : ℕ) (row : List ℕ) where
   pub swapped_apart : (j k : ℕ) → j < blocks → k < blocks → swapped blocks row j ≡ swapped blocks row k → j ≡ k
   swapped_apart j k h l e = grind (arith, nat_tests)
 
--- ---- the block k of the bank b is shown, and found at n
-module _ (p : Places) (m : Memory) (b k n : ℕ) (found : Found p (shape_of m) b k n) where
+-- ---- the block is shown, and found at `to` below
+module _ (p : Places) (m : Memory) (at to : BlockAddress) (found : Found p (shape_of m) at to) where
+  abbrev b : ℕ
+  b = at.bank
+
+  abbrev k : ℕ
+  k = at.block
+
+  abbrev n : ℕ
+  n = to.block
+
   shown_is : shown_by p m ≡ relocated p m
   shown_is = cond-true (shows p (shape_of m)) (relocated p m) no_banks found.shown
 
@@ -32,19 +42,20 @@ module _ (p : Places) (m : Memory) (b k n : ℕ) (found : Found p (shape_of m) b
   others : (l : ℕ) → l < p.shown → place_of p m.blocks b l ≡ n → l ≡ k
   others l h e = swapped_apart m.blocks (get_or p.table b []) l k (omega (arith, few)) (omega (arith, few, found.block)) (e ∙ found.is)
 
-  with_found : (v : Block) (c l : ℕ) → (relocated p (with_block m b n v)).at c l ≡ (with_block (relocated p m) b k v).at c l
-  with_found v c l = let o = others l in let is = found.is in grind (arith, nat_tests)
+  with_found : (v : Block) (c l : ℕ) → (relocated p (with_block m to.bank n v)).at c l ≡ (with_block (relocated p m) b k v).at c l
+  with_found v c l = let o = others l in let is = found.is in let same = found.same_bank in grind (arith, nat_tests)
 
-  pub in_place : Carried (shown_by p) m b k b n
+  pub in_place : Carried (shown_by p) m at.bank at.block to.bank to.block
   in_place =
       let bank = found.bank in
       let block = found.block in
       let low = place_low in
       let is = found.is in
+      let same = found.same_bank in
       record {
-        sees = ap (λ x. spot x b k) shown_is ∙ same_spot (spot (relocated p m) b k) (spot m b n) (grind (arith, nat_tests)) refl (grind (arith, nat_tests));
+        sees = ap (λ x. spot x b k) shown_is ∙ same_spot (spot (relocated p m) b k) (spot m to.bank n) (grind (arith, nat_tests)) refl (grind (arith, nat_tests));
         changes = λ v.
-            cond-true (shows p (shape_of m)) (relocated p (with_block m b n v)) no_banks found.shown
-            ∙ (same_memory (relocated p (with_block m b n v)) (with_block (relocated p m) b k v) refl refl refl (with_found v)
+            cond-true (shows p (shape_of m)) (relocated p (with_block m to.bank n v)) no_banks found.shown
+            ∙ (same_memory (relocated p (with_block m to.bank n v)) (with_block (relocated p m) b k v) refl refl refl (with_found v)
             ∙ ap (λ x. with_block x b k v) (sym shown_is));
       }

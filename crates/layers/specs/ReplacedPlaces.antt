@@ -2,6 +2,7 @@
 use Rattle.std.specs.Prelude.{◌≡◌, ℕ, ◌<◌, ◌≤◌, Bool, true, cond, ◌&&◌, List, [], ◌==◌, nat_le, nat_lt, slice_index, slice_index_or}
 use Rattle.std.proofs.Common.{arith}
 use Rattle.std.proofs.lemmas.Bool.{and_parts, cond_both, cond-false, leb-true, ltb-true}
+use Rattle.flash.specs.declared.BlockAddress.{BlockAddress}
 use Rattle.flash.specs.declared.Shape.{Shape}
 use Rattle.flash.specs.Memory.{Memory, Bounds, SoundBlock, no_banks, no_banks_bounds, no_block, no_block_sound, shape_of}
 use Rattle.layers.specs.declared.replacer.places.Places.{Places}
@@ -33,12 +34,13 @@ relocated p m = record {
 abbrev pub shown_by : Places → Memory → Memory
 shown_by p m = cond (shows p (shape_of m)) (relocated p m) no_banks
 
--- the block is shown, and n is its number below
-pub record Found (p : Places) (below : Shape) (b k n : ℕ) : Type 0 where
+-- the block is shown, and found at `to` below
+pub record Found (p : Places) (below : Shape) (at to : BlockAddress) : Type 0 where
   pub shown : shows p below ≡ true
-  pub bank : b < below.banks
-  pub block : k < p.shown
-  pub is : n ≡ place_of p below.blocks b k
+  pub bank : at.bank < below.banks
+  pub block : at.block < p.shown
+  pub same_bank : to.bank ≡ at.bank
+  pub is : to.block ≡ place_of p below.blocks at.bank at.block
 
 -- ---- the bounds
 -- what the test tells

@@ -5,7 +5,7 @@ ghost use Rattle.layers.specs.Replaced.{replaced};
 ghost use Rattle.layers.specs.ReplacedPlaces.{Found, shown_by, shown_by_bounds};
 
 use self::places::Places;
-use flash::{Flash, NO_BANKS, Refusal, Shape};
+use flash::{BlockAddress, Flash, NO_BANKS, Refusal, Shape};
 
 mod bad;
 mod places;
@@ -18,10 +18,10 @@ pub struct Replacer<F> {
 }
 
 impl<F: Flash> Replacer<F> {
-    // The flash `inner` without the last `spares` blocks of each bank, and without the bad (bank, block) pairs.
-    // It shows no banks where there are more than 8 spares or no blocks besides them, where there are more than 32 pairs,
+    // The flash `inner` without the last `spares` blocks of each bank, and without the bad blocks.
+    // It shows no banks where there are more than 8 spares or no blocks besides them, where there are more than 32 bad blocks,
     // one that is not a block of the flash or one that is repeated, or where a bank has too few good spares.
-    pub fn new(inner: F, spares: usize, bad: &[(usize, usize)]) -> Self
+    pub fn new(inner: F, spares: usize, bad: &[BlockAddress]) -> Self
         ensures memory { shown_by result.places (F.Flash.memory result.inner) ≡ replaced spares bad.now (F.Flash.memory inner) }
         ensures inner { result.inner ≡ inner }
     {
@@ -29,11 +29,11 @@ impl<F: Flash> Replacer<F> {
         Replacer { inner, places }
     }
 
-    // The number below of a block, or none where the block is not shown.
-    fn find(&self, bank: usize, block: usize) -> Option<usize>
-        ensures { MatchOption result (inside (shown_by self.now.places (F.Flash.memory self.now.inner)) bank block ≡ false) (Found self.now.places (shape_of (F.Flash.memory self.now.inner)) bank block) }
+    // Where a block is found below, or none where the block is not shown.
+    fn find(&self, at: BlockAddress) -> Option<BlockAddress>
+        ensures { MatchOption result (inside (shown_by self.now.places (F.Flash.memory self.now.inner)) at.bank at.block ≡ false) (Found self.now.places (shape_of (F.Flash.memory self.now.inner)) at) }
     {
-        self.places.find(self.inner.shape(), bank, block)
+        self.places.find(self.inner.shape(), at)
     }
 }
 
@@ -54,47 +54,34 @@ impl<F: Flash> Flash for Replacer<F> {
         }
     }
 
-    fn standing(&self, bank: usize, block: usize) -> Option<usize> {
-        let place = self.find(bank, block)?;
-        self.inner.standing(bank, place)
+    fn standing(&self, at: BlockAddress) -> Option<usize> {
+        let place = self.find(at)?;
+        self.inner.standing(place)
     }
 
-    fn lives(&self, bank: usize, block: usize) -> Option<u16> {
-        let place = self.find(bank, block)?;
-        self.inner.lives(bank, place)
+    fn lives(&self, at: BlockAddress) -> Option<u16> {
+        let place = self.find(at)?;
+        self.inner.lives(place)
     }
 
     fn read(
         &self,
-        bank: usize,
-        block: usize,
+        at: BlockAddress,
         page: usize,
         quarter: usize,
         buffer: &mut [u8],
     ) -> Result<(), Refusal> {
-        let Some(place) = self.find(bank, block) else {
-            return Err(Refusal::Outside);
-        };
-        self.inner.read(bank, place, page, quarter, buffer)
+        let place = self.find(at).ok_or(Refusal::Outside)?;
+        self.inner.read(place, page, quarter, buffer)
     }
 
-    fn program(
-        &mut self,
-        bank: usize,
-        block: usize,
-        page: usize,
-        bytes: &[u8],
-    ) -> Result<(), Refusal> {
-        let Some(place) = self.find(bank, block) else {
-            return Err(Refusal::Outside);
-        };
-        self.inner.program(bank, place, page, bytes)
+    fn program(&mut self, at: BlockAddress, page: usize, bytes: &[u8]) -> Result<(), Refusal> {
+        let place = self.find(at).ok_or(Refusal::Outside)?;
+        self.inner.program(place, page, bytes)
     }
 
-    fn erase(&mut self, bank: usize, block: usize) -> Result<(), Refusal> {
-        let Some(place) = self.find(bank, block) else {
-            return Err(Refusal::Outside);
-        };
-        self.inner.erase(bank, place)
+    fn erase(&mut self, at: BlockAddress) -> Result<(), Refusal> {
+        let place = self.find(at).ok_or(Refusal::Outside)?;
+        self.inner.erase(place)
     }
 }

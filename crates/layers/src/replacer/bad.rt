@@ -1,27 +1,28 @@
-// What a list of bad (bank, block) pairs tells of the blocks of a bank.
+// What a list of bad blocks tells of the blocks of a bank.
 ghost use Rattle.std.specs.Prelude.{◌≡◌, ◌+◌, ◌<◌, ◌≤◌, true, false, length, slice_index};
 ghost use Rattle.flash.specs.Maps.{chosen, is_bad, replaced_block};
 ghost use Rattle.layers.specs.Replaced.{enough, listed, replaceable};
 
-// Whether the list has the pair.
-fn is_bad(bad: &[(usize, usize)], bank: usize, block: usize) -> bool
+use flash::BlockAddress;
+
+// Whether the list has the block.
+fn is_bad(bad: &[BlockAddress], bank: usize, block: usize) -> bool
     ensures { result ≡ is_bad bad.now bank block }
 {
-    for pair in bad {
-        if pair.0 == bank && pair.1 == block {
+    for at in bad {
+        if at.bank == bank && at.block == block {
             return true;
         }
     }
     false
 }
 
-// Whether each pair is a block of the flash, and none is repeated.
-fn listed(banks: usize, blocks: usize, bad: &[(usize, usize)]) -> bool
+// Whether each bad block is a block of the flash, and none is repeated.
+fn listed(banks: usize, blocks: usize, bad: &[BlockAddress]) -> bool
     ensures { result ≡ listed banks blocks bad.now }
 {
-    for (i, pair) in bad.iter().enumerate() {
-        let (bank, block) = *pair;
-        if bank >= banks || block >= blocks || is_bad(&bad[i + 1..], bank, block) {
+    for (i, at) in bad.iter().enumerate() {
+        if at.bank >= banks || at.block >= blocks || is_bad(&bad[i + 1..], at.bank, at.block) {
             return false;
         }
     }
@@ -29,7 +30,7 @@ fn listed(banks: usize, blocks: usize, bad: &[(usize, usize)]) -> bool
 }
 
 // How many of the n blocks from `from` on are bad, or are not.
-fn count(which: bool, bad: &[(usize, usize)], bank: usize, from: usize, n: usize) -> usize
+fn count(which: bool, bad: &[BlockAddress], bank: usize, from: usize, n: usize) -> usize
     requires { from + n ≤ 64 }
     ensures { result ≡ length (chosen which bad.now bank from n) }
 {
@@ -43,7 +44,7 @@ fn count(which: bool, bad: &[(usize, usize)], bank: usize, from: usize, n: usize
 }
 
 // The good block with the index `index` among the n blocks from `from` on, or 0 where there are too few.
-fn good(bad: &[(usize, usize)], bank: usize, from: usize, n: usize, index: usize) -> usize
+fn good(bad: &[BlockAddress], bank: usize, from: usize, n: usize, index: usize) -> usize
     requires { from + n ≤ 64 }
     ensures is { result ≡ slice_index (chosen false bad.now bank from n) index }
     ensures small { result < 64 }
@@ -61,7 +62,7 @@ fn good(bad: &[(usize, usize)], bank: usize, from: usize, n: usize, index: usize
 }
 
 // Whether each bank has a good spare for each of its bad shown blocks.
-fn enough(banks: usize, blocks: usize, spares: usize, bad: &[(usize, usize)]) -> bool
+fn enough(banks: usize, blocks: usize, spares: usize, bad: &[BlockAddress]) -> bool
     requires { (spares ≤ blocks) × (blocks ≤ 64) }
     ensures { result ≡ enough blocks spares bad.now banks }
 {
@@ -75,12 +76,7 @@ fn enough(banks: usize, blocks: usize, spares: usize, bad: &[(usize, usize)]) ->
 }
 
 // Whether the spares can replace the bad blocks.
-pub(super) fn replaceable(
-    banks: usize,
-    blocks: usize,
-    spares: usize,
-    bad: &[(usize, usize)],
-) -> bool
+pub(super) fn replaceable(banks: usize, blocks: usize, spares: usize, bad: &[BlockAddress]) -> bool
     requires { blocks ≤ 64 }
     ensures { result ≡ replaceable banks blocks spares bad.now }
 {
@@ -92,7 +88,7 @@ pub(super) fn replaceable(
 
 // Where a shown block is found.
 pub(super) fn place(
-    bad: &[(usize, usize)],
+    bad: &[BlockAddress],
     bank: usize,
     blocks: usize,
     spares: usize,

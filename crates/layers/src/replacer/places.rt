@@ -6,7 +6,7 @@ ghost use Rattle.layers.specs.ReplacedPlaces.{Found, place_of, shows, shows_bloc
 
 use super::bad::replaceable;
 use super::table::table;
-use flash::Shape;
+use flash::{BlockAddress, Shape};
 
 // How many blocks of a bank are shown, 0 where the bad blocks cannot be replaced; and for each bank a row in which
 // a shown block has the number of its place, and its place the number of the block.
@@ -18,7 +18,7 @@ pub(super) struct Places {
 
 impl Places {
     // The places over a flash of the shape `below`.
-    pub(crate) fn new(below: Shape, spares: usize, bad: &[(usize, usize)]) -> Places
+    pub(crate) fn new(below: Shape, spares: usize, bad: &[BlockAddress]) -> Places
         requires { (below.banks ≤ 16) × (below.blocks ≤ 64) }
         ensures shown { result.shown ≡ (if replaceable below.banks below.blocks spares bad.now then below.blocks - spares else 0) }
         ensures places { (b k : ℕ) → b < below.banks → k < result.shown → place_of result below.blocks b k ≡ replaced_block below.blocks spares bad.now b k }
@@ -42,21 +42,24 @@ impl Places {
         0 < self.shown && self.shown <= below.blocks
     }
 
-    // The number below of a block, or none where the block is not shown. The contracts speak of every value of the type,
+    // Where a block is found below, or none where the block is not shown. The contracts speak of every value of the type,
     // and in a row that `new` did not make two blocks could have one place. So a block and its place must name each
     // other: then no two blocks meet, whatever the row. On what `new` made, this test holds.
-    pub(crate) fn find(&self, below: Shape, bank: usize, block: usize) -> Option<usize>
+    pub(crate) fn find(&self, below: Shape, at: BlockAddress) -> Option<BlockAddress>
         requires { (below.banks ≤ 16) × (below.blocks ≤ 64) }
-        ensures { MatchOption result (shows_block self.now below bank block ≡ false) (Found self.now below bank block) }
+        ensures { MatchOption result (shows_block self.now below at.bank at.block ≡ false) (Found self.now below at) }
     {
-        if !self.fit(below) || bank >= below.banks || block >= self.shown {
+        if !self.fit(below) || at.bank >= below.banks || at.block >= self.shown {
             return None;
         }
-        let row = &self.table[bank];
-        let place = row[block] as usize;
-        if place < below.blocks && row[place] as usize == block {
-            return Some(place);
+        let row = &self.table[at.bank];
+        let place = row[at.block] as usize;
+        if place < below.blocks && row[place] as usize == at.block {
+            return Some(BlockAddress {
+                bank: at.bank,
+                block: place,
+            });
         }
-        Some(block)
+        Some(at)
     }
 }

@@ -1,13 +1,14 @@
-// The table of the places, worked out from the list of bad pairs.
+// The table of the places, worked out from the list of bad blocks.
 ghost use Rattle.std.specs.Prelude.{◌≡◌, ℕ, ◌-◌, ◌<◌, ◌≤◌, true, [], slice_index_or};
 ghost use Rattle.flash.specs.Maps.{replaced_block};
 ghost use Rattle.layers.specs.Replaced.{bank_enough, replaceable};
 ghost use Rattle.layers.specs.ReplacedPlaces.{swapped};
 
 use super::bad::place;
+use flash::BlockAddress;
 
 // The row of one bank: each shown block and its place have each other's number.
-fn row(bad: &[(usize, usize)], bank: usize, blocks: usize, spares: usize) -> [u8; 64]
+fn row(bad: &[BlockAddress], bank: usize, blocks: usize, spares: usize) -> [u8; 64]
     requires some { spares < blocks }
     requires few { blocks ≤ 64 }
     requires enough { bank_enough blocks spares bad.now bank ≡ true }
@@ -24,7 +25,7 @@ fn row(bad: &[(usize, usize)], bank: usize, blocks: usize, spares: usize) -> [u8
 
 // The rows of all banks.
 pub(super) fn table(
-    bad: &[(usize, usize)],
+    bad: &[BlockAddress],
     banks: usize,
     blocks: usize,
     spares: usize,

@@ -5,8 +5,8 @@ use Rattle.layers.specs.Replaced.{listed}
 use Rattle.layers.proofs.ReplacedLists.{listed_step}
 use Rattle.layers.proofs.replacer.bad.listed.Goals as goal
 
-pub returns-then-bank-banks : goal.returns-then-bank-banks
-returns-then-bank-banks c =
+pub returns-then-at-banks : goal.returns-then-at-banks
+returns-then-at-banks c =
     let e = listed_step c.args.banks c.args.blocks c.loop-i.i c.args.bad.now c.loop-i-test.true in
     let r = take_rest c.args.bad.now (c.loop-i.i + 1) in
     grind (arith, nat_tests)
