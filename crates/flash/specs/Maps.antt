@@ -1,5 +1,6 @@
 -- The maps of numbers on which two layers rest: how a byte is whitened, and where a replaced block is found.
 use Rattle.std.specs.Prelude.{ℕ, zero, suc, ◌+◌, ◌-◌, ◌*◌, ◌%◌, Bool, true, false, cond, not, ◌&&◌, ◌||◌, List, [], ◌∷◌, ◌++◌, length, ◌==◌, bit_xor, slice_index}
+use Rattle.std.specs.List.{filter, list_any, range_with_len}
 use Rattle.flash.specs.declared.BlockAddress.{BlockAddress}
 
 -- ---- whitening
@@ -18,17 +19,19 @@ address bank block = record { bank = bank; block = block }
 
 -- the list of bad blocks has this one
 abbrev pub is_bad : List BlockAddress → ℕ → ℕ → Bool
-is_bad [] bank block = false
-is_bad (at ∷ ats) bank block = (at.bank == bank && at.block == block) || is_bad ats bank block
+is_bad bad bank block = list_any (λ at. at.bank == bank && at.block == block) bad
 
--- of the n blocks from `from` on, rising, those that are bad, or those that are not
-abbrev pub chosen : Bool → List BlockAddress → ℕ → ℕ → ℕ → List ℕ
-chosen bad pairs bank from zero = []
-chosen bad pairs bank from (suc n) = chosen bad pairs bank from n ++ cond (cond (is_bad pairs bank (from + n)) bad (not bad)) ((from + n) ∷ []) []
+-- of these blocks of a bank, those that are bad
+abbrev pub bad_of : List BlockAddress → ℕ → List ℕ → List ℕ
+bad_of bad bank blocks = filter (λ k. is_bad bad bank k) blocks
+
+-- and those that are not
+abbrev pub good_of : List BlockAddress → ℕ → List ℕ → List ℕ
+good_of bad bank blocks = filter (λ k. not (is_bad bad bank k)) blocks
 
 -- where a shown block is found: a good one is itself, and the bad ones, rising, take the bank's good spares, rising
 abbrev pub replaced_block : ℕ → ℕ → List BlockAddress → ℕ → ℕ → ℕ
-replaced_block blocks spares pairs bank block =
-    cond (is_bad pairs bank block)
-    (slice_index (chosen false pairs bank (blocks - spares) spares) (length (chosen true pairs bank 0 block)))
+replaced_block blocks spares bad bank block =
+    cond (is_bad bad bank block)
+    (slice_index (good_of bad bank (range_with_len (blocks - spares) spares)) (length (bad_of bad bank (range_with_len 0 block))))
     block

@@ -2,6 +2,5 @@ mod Carried
 mod Indexed
 mod ReplacedApart
 mod ReplacedLists
-mod ReplacedRows
 mod Replacing
 mod Whites

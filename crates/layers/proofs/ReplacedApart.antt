@@ -1,93 +1,114 @@
 -- That shown blocks are found at places of the bank, and two of them at two places.
-use Rattle.std.proofs.Common.{◌≡◌, ℕ, zero, suc, ◌+◌, ◌-◌, ◌<◌, ◌≤◌, Bool, true, false, cond, not, List, length, get_or, ap, ◌∙◌, ⊎_elim, zero-add, arith}
-use Rattle.std.proofs.lemmas.List.{length_push}
-use Rattle.std.proofs.lemmas.Bool.{cases_Bool, cases_lt, cond-false, cond-true}
+use Rattle.std.proofs.Common.{Some, ◌≡◌, ℕ, zero, suc, ◌+◌, ◌-◌, ◌<◌, ◌≤◌, true, false, not, ◌&&◌, nat_le, nat_lt, List, ◌∷◌, ◌++◌, length, get_or, ap, sym, ◌∙◌, ⊎_elim, add-zero, zero-add, arith}
+use Rattle.std.proofs.lemmas.Option.{slice_get-get_or}
+use Rattle.std.specs.List.{slice_get, All, AllPairs, range_with_len}
+use Rattle.std.proofs.lemmas.List.{length-append}
+use Rattle.std.proofs.lemmas.List.Elements.{All-filter, filter-append}
+use Rattle.std.proofs.lemmas.List.FromFn.{get_or-range_with_len, length-range_with_len}
+use Rattle.std.proofs.lemmas.List.Kept.{AllPairs-filter, AllPairs-from_increasing}
+use Rattle.std.proofs.lemmas.List.Sums.{AllPass-from_list_all}
+use Rattle.std.proofs.lemmas.Bool.{and_parts, cases_Bool, cond-false, cond-true, cases_lt, leb-true}
 use Rattle.flash.specs.declared.BlockAddress.{BlockAddress}
-use Rattle.flash.specs.Maps.{chosen, is_bad, replaced_block}
-use Rattle.layers.proofs.ReplacedLists.{Enough, chosen_begins, chosen_next, chosen_rises, chosen_with, chosen_without}
+use Rattle.flash.specs.Maps.{bad_of, good_of, is_bad}
+use Rattle.layers.specs.declared.replacer.plan.Plan.{Plan}
+use Rattle.layers.specs.ReplacedPlan.{planned, shown_of}
+use Rattle.layers.specs.Replaced.{bank_enough, enough, listed, replaceable}
 
--- ---- the blocks that are chosen rise
-module _ (which : Bool) (pairs : List BlockAddress) (bank from : ℕ) where
-  -- the last of them, where the last block is one
-  chosen_last : (n i : ℕ) → length (chosen which pairs bank from n) ≤ i → i < length (chosen which pairs bank from (suc n))
-      → (i ≡ length (chosen which pairs bank from n)) × (get_or (chosen which pairs bank from (suc n)) i 0 ≡ from + n)
-  chosen_last n i h l =
-      ⊎_elim
-      (λ t. let e : i ≡ length (chosen which pairs bank from n) = omega (arith, ap length (chosen_with which pairs bank from n t), length_push (chosen which pairs bank from n) (from + n)) in
-      (e, chosen_next which pairs bank from (suc n) n i (omega arith) e t))
-      (λ t. absurd (omega (arith, ap length (chosen_without which pairs bank from n t))))
-      (cases_Bool (cond (is_bad pairs bank (from + n)) which (not which)))
+-- ---- the numbers of a range
+range_split : (a m n : ℕ) → range_with_len a (m + n) ≡ range_with_len a m ++ range_with_len (a + m) n
+range_split a zero n = simp (zero-add, add-zero)
+range_split a (suc m) n =
+    let more : suc m + n ≡ suc (m + n) = omega arith in
+    let same : a + 1 + m ≡ a + suc m = omega arith in
+    ap (range_with_len a) more ∙ ap (λ xs. a ∷ xs) (range_split (a + 1) m n ∙ ap (λ b. range_with_len (a + 1) m ++ range_with_len b n) same)
 
-  chosen_within : (n i : ℕ) → i < length (chosen which pairs bank from n) → (from ≤ get_or (chosen which pairs bank from n) i 0) × (get_or (chosen which pairs bank from n) i 0 < from + n)
-  chosen_within zero i h = absurd (omega arith)
-  chosen_within (suc n) i h =
-      ⊎_elim
-      (λ l. let e = chosen_begins which pairs bank from (suc n) n i (omega arith) l in let w = chosen_within n i l in (omega (arith, e, w.0), omega (arith, e, w.1)))
-      (λ l. let e = (chosen_last n i l h).1 in (omega (arith, e), omega (arith, e)))
-      (cases_lt i (length (chosen which pairs bank from n)))
+range_rises : (a n : ℕ) → AllPairs (λ x y. x < y) (range_with_len a n)
+range_rises a n =
+    AllPairs-from_increasing (range_with_len a n)
+    (λ k h. omega (arith, length-range_with_len a n, get_or-range_with_len a n k 0 (omega (arith, length-range_with_len a n)), get_or-range_with_len a n (k + 1) 0 (omega (arith, length-range_with_len a n))))
 
-  chosen_strict : (n i j : ℕ) → i < j → j < length (chosen which pairs bank from n) → get_or (chosen which pairs bank from n) i 0 < get_or (chosen which pairs bank from n) j 0
-  chosen_strict zero i j h l = absurd (omega arith)
-  chosen_strict (suc n) i j h l =
-      ⊎_elim
-      (λ u. omega (arith, chosen_begins which pairs bank from (suc n) n i (omega arith) (omega arith), chosen_begins which pairs bank from (suc n) n j (omega arith) u, chosen_strict n i j h u))
-      (λ u. let e = chosen_last n j u l in
-      let v : i < length (chosen which pairs bank from n) = omega (arith, e.0) in
-      omega (arith, e.1, chosen_begins which pairs bank from (suc n) n i (omega arith) v, (chosen_within n i v).1))
-      (cases_lt j (length (chosen which pairs bank from n)))
+range_within : (a n : ℕ) → All (λ x. (a ≤ x) × (x < a + n)) (range_with_len a n)
+range_within a n k d h =
+    let low : k < n = omega (arith, length-range_with_len a n) in
+    (omega (arith, get_or-range_with_len a n k d low), omega (arith, get_or-range_with_len a n k d low))
 
--- ---- the places of a bank with good spares enough
-module _ (blocks spares : ℕ) (pairs : List BlockAddress) (bank : ℕ) (fits : spares ≤ blocks) (enough : Enough blocks spares pairs bank) where
+-- ---- where the bad blocks can be replaced, each bank has good spares enough
+each_enough : (banks blocks spares : ℕ) (bad : List BlockAddress) → replaceable banks blocks spares bad ≡ true → (bank : ℕ) → bank < banks → bank_enough blocks spares bad bank ≡ true
+each_enough banks blocks spares bad e bank h =
+    let x = and_parts (nat_le spares 8) (nat_lt spares blocks && (nat_le (length bad) 32 && (listed banks blocks bad && enough blocks spares bad banks))) e in
+    let y = and_parts (nat_lt spares blocks) (nat_le (length bad) 32 && (listed banks blocks bad && enough blocks spares bad banks)) x.1 in
+    let z = and_parts (nat_le (length bad) 32) (listed banks blocks bad && enough blocks spares bad banks) y.1 in
+    let w = and_parts (listed banks blocks bad) (enough blocks spares bad banks) z.1 in
+    ap (bank_enough blocks spares bad) (sym (get_or-range_with_len 0 banks bank 0 h ∙ zero-add bank)) ∙ AllPass-from_list_all (bank_enough blocks spares bad) (range_with_len 0 banks) w.1 bank 0 (omega (arith, length-range_with_len 0 banks))
+
+-- ---- the places that a plan has in a bank
+module _ (p : Plan) (bank : ℕ) (low : bank < p.below.banks) where
+  abbrev bad : List BlockAddress
+  bad = p.bad.now
+
+  abbrev shown : ℕ
+  shown = shown_of p
+
   -- the bad blocks before a block
   abbrev before : ℕ → ℕ
-  before k = length (chosen true pairs bank 0 k)
+  before k = length (bad_of bad bank (range_with_len 0 k))
 
   abbrev goods : List ℕ
-  goods = chosen false pairs bank (blocks - spares) spares
+  goods = good_of bad bank (range_with_len shown p.spares)
 
   abbrev place : ℕ → ℕ
-  place k = replaced_block blocks spares pairs bank k
+  place k = planned p bank k
 
-  before_rises : (j k : ℕ) → j < k → is_bad pairs bank j ≡ true → before j < before k
+  before_rises : (j k : ℕ) → j < k → is_bad bad bank j ≡ true → before j < before k
   before_rises j k h t =
-      omega (
-        arith,
-        chosen_rises true pairs bank 0 k (suc j) h,
-        ap length (chosen_with true pairs bank 0 j (ap (λ x. cond (is_bad pairs bank x) true false) (zero-add j) ∙ ap (λ x. cond x true false) t)),
-        length_push (chosen true pairs bank 0 j) (0 + j),
-      )
+      let more : j + suc (k - j - 1) ≡ k = omega arith in
+      let first : is_bad bad bank (0 + j) ≡ true = ap (is_bad bad bank) (zero-add j) ∙ t in
+      let rest = bad_of bad bank (range_with_len (0 + j + 1) (k - j - 1)) in
+      let split : bad_of bad bank (range_with_len 0 k) ≡ bad_of bad bank (range_with_len 0 j) ++ (0 + j) ∷ rest =
+      ap (λ n. bad_of bad bank (range_with_len 0 n)) (sym more)
+      ∙ (ap (bad_of bad bank) (range_split 0 j (suc (k - j - 1)))
+      ∙ (filter-append (is_bad bad bank) (range_with_len 0 j) (range_with_len (0 + j) (suc (k - j - 1)))
+      ∙ ap (λ xs. bad_of bad bank (range_with_len 0 j) ++ xs) (cond-true (is_bad bad bank (0 + j)) ((0 + j) ∷ rest) rest first))) in
+      omega (arith, ap length split, length-append (bad_of bad bank (range_with_len 0 j)) ((0 + j) ∷ rest))
 
   -- a bad block is found at a good spare
-  module _ (k : ℕ) (shown : k < blocks - spares) (bad : is_bad pairs bank k ≡ true) where
-    place_bad : place k ≡ get_or goods (before k) 0
-    place_bad = cond-true (is_bad pairs bank k) (get_or goods (before k) 0) k bad
+  module _ (k : ℕ) (h : k < shown) (is : is_bad bad bank k ≡ true) where
+    pub place_bad : place k ≡ get_or goods (before k) 0
+    place_bad = cond-true (is_bad bad bank k) (get_or goods (before k) 0) k is
 
-    spared : before k < length goods
-    spared = omega (arith, before_rises k (blocks - spares) shown bad)
+    pub spared : before k < length goods
+    spared = omega (arith, before_rises k shown h is, leb-true (before shown) (length goods) (each_enough p.below.banks p.below.blocks p.spares bad p.can bank low))
 
-    place_spare : (blocks - spares ≤ place k) × (place k < blocks)
-    place_spare = let w = chosen_within false pairs bank (blocks - spares) spares (before k) spared in (omega (arith, place_bad, w.0), omega (arith, place_bad, w.1))
+    place_spare : (shown ≤ place k) × (place k < p.below.blocks)
+    place_spare =
+        let w = All-filter (λ x. not (is_bad bad bank x)) (λ x. (shown ≤ x) × (x < shown + p.spares)) (range_with_len shown p.spares) (range_within shown p.spares) (before k) 0 spared in
+        (omega (arith, place_bad, w.0), omega (arith, place_bad, w.1, p.some_shown))
 
-  place_good : (k : ℕ) → is_bad pairs bank k ≡ false → place k ≡ k
-  place_good k good = cond-false (is_bad pairs bank k) (get_or goods (before k) 0) k good
+  pub found_spare : (k : ℕ) → k < shown → is_bad bad bank k ≡ true → slice_get goods (before k) ≡ Some (place k)
+  found_spare k h is = slice_get-get_or goods (before k) 0 (spared k h is) ∙ ap Some (sym (place_bad k h is))
 
-  pub place_below : (k : ℕ) → k < blocks - spares → place k < blocks
-  place_below k h = ⊎_elim (λ t. (place_spare k h t).1) (λ t. omega (arith, place_good k t)) (cases_Bool (is_bad pairs bank k))
+  place_good : (k : ℕ) → is_bad bad bank k ≡ false → place k ≡ k
+  place_good k good = cond-false (is_bad bad bank k) (get_or goods (before k) 0) k good
 
-  bad_strict : (j k : ℕ) → j < k → k < blocks - spares → is_bad pairs bank j ≡ true → is_bad pairs bank k ≡ true → place j < place k
-  bad_strict j k h l s t =
-      omega (arith, place_bad j (omega arith) s, place_bad k l t, chosen_strict false pairs bank (blocks - spares) spares (before j) (before k) (before_rises j k h s) (spared k l t))
+  pub place_below : (k : ℕ) → k < shown → place k < p.below.blocks
+  place_below k h = ⊎_elim (λ t. (place_spare k h t).1) (λ t. omega (arith, place_good k t)) (cases_Bool (is_bad bad bank k))
 
-  pub place_apart : (j k : ℕ) → j < k → k < blocks - spares → place j ≡ place k → ⊥
+  bad_rise : (j k : ℕ) → j < k → k < shown → is_bad bad bank j ≡ true → is_bad bad bank k ≡ true → place j < place k
+  bad_rise j k h l s t =
+      omega (
+        arith,
+        place_bad j (omega arith) s,
+        place_bad k l t,
+        AllPairs-filter (λ x y. x < y) (λ x. not (is_bad bad bank x)) (range_with_len shown p.spares) (range_rises shown p.spares) (before j) (before k) 0 (before_rises j k h s) (spared k l t),
+      )
+
+  place_apart : (j k : ℕ) → j < k → k < shown → place j ≡ place k → ⊥
   place_apart j k h l e =
       ⊎_elim
-      (λ s. ⊎_elim (λ t. omega (arith, e, bad_strict j k h l s t)) (λ t. omega (arith, e, (place_spare j (omega arith) s).0, place_good k t)) (cases_Bool (is_bad pairs bank k)))
-      (λ s. ⊎_elim (λ t. omega (arith, e, (place_spare k l t).0, place_good j s)) (λ t. omega (arith, e, place_good j s, place_good k t)) (cases_Bool (is_bad pairs bank k)))
-      (cases_Bool (is_bad pairs bank j))
+      (λ s. ⊎_elim (λ t. omega (arith, e, bad_rise j k h l s t)) (λ t. omega (arith, e, (place_spare j (omega arith) s).0, place_good k t)) (cases_Bool (is_bad bad bank k)))
+      (λ s. ⊎_elim (λ t. omega (arith, e, (place_spare k l t).0, place_good j s)) (λ t. omega (arith, e, place_good j s, place_good k t)) (cases_Bool (is_bad bad bank k)))
+      (cases_Bool (is_bad bad bank j))
 
-  -- a block is not the place of one before it, and its own place is not before it
-  pub place_other : (j k : ℕ) → j < k → k < blocks - spares → place j ≡ k → ⊥
-  place_other j k h l e = ⊎_elim (λ t. omega (arith, e, (place_spare j (omega arith) t).0)) (λ t. omega (arith, e, place_good j t)) (cases_Bool (is_bad pairs bank j))
-
-  pub place_past : (k : ℕ) → k < blocks - spares → k ≤ place k
-  place_past k h = ⊎_elim (λ t. omega (arith, (place_spare k h t).0)) (λ t. omega (arith, place_good k t)) (cases_Bool (is_bad pairs bank k))
+  pub place_same : (j k : ℕ) → j < shown → k < shown → place j ≡ place k → j ≡ k
+  place_same j k h l e =
+      ⊎_elim (λ u. absurd (place_apart j k u l e)) (λ u. ⊎_elim (λ v. absurd (place_apart k j v h (sym e))) (λ v. omega arith) (cases_lt k j)) (cases_lt j k)

@@ -1,7 +1,8 @@
 -- What a flash shows whose bad blocks are replaced by spares: of the K blocks in a bank the last S are spares.
-use Rattle.std.specs.Prelude.{ℕ, zero, suc, ◌-◌, Bool, true, false, cond, not, ◌&&◌, List, [], ◌∷◌, length, nat_le, nat_lt}
+use Rattle.std.specs.Prelude.{ℕ, ◌-◌, Bool, true, cond, not, ◌&&◌, List, [], ◌∷◌, length, nat_le, nat_lt, slice_index, slice_index_or}
+use Rattle.std.specs.List.{list_all, range_with_len}
 use Rattle.flash.specs.declared.BlockAddress.{BlockAddress}
-use Rattle.flash.specs.Maps.{chosen, is_bad, replaced_block}
+use Rattle.flash.specs.Maps.{bad_of, good_of, is_bad, replaced_block}
 use Rattle.flash.specs.Memory.{Memory, no_banks, no_block}
 
 -- ---- where it can be done
@@ -14,12 +15,11 @@ listed banks blocks (at ∷ ats) =
 -- a bank has a good spare for each of its bad shown blocks
 abbrev pub bank_enough : ℕ → ℕ → List BlockAddress → ℕ → Bool
 bank_enough blocks spares bad bank =
-    nat_le (length (chosen true bad bank 0 (blocks - spares))) (length (chosen false bad bank (blocks - spares) spares))
+    nat_le (length (bad_of bad bank (range_with_len 0 (blocks - spares)))) (length (good_of bad bank (range_with_len (blocks - spares) spares)))
 
 -- each of the first n banks has
 abbrev pub enough : ℕ → ℕ → List BlockAddress → ℕ → Bool
-enough blocks spares bad zero = true
-enough blocks spares bad (suc n) = bank_enough blocks spares bad n && enough blocks spares bad n
+enough blocks spares bad n = list_all (bank_enough blocks spares bad) (range_with_len 0 n)
 
 -- of a flash of so many banks and blocks in each, the last `spares` blocks of a bank can replace the bad blocks
 abbrev pub replaceable : ℕ → ℕ → ℕ → List BlockAddress → Bool
@@ -34,3 +34,7 @@ replaced spares bad m = cond (replaceable m.banks m.blocks spares bad) (record {
   depth = m.depth;
   at = λ b k. cond (nat_lt b m.banks && nat_lt k (m.blocks - spares)) (m.at b (replaced_block m.blocks spares bad b k)) no_block;
 }) no_banks
+
+-- ---- a table of places: for each bank a row, with the place of each shown block
+abbrev pub place_in : List (List ℕ) → ℕ → ℕ → ℕ
+place_in rows bank block = slice_index (slice_index_or rows bank []) block

@@ -1,26 +1,16 @@
 -- What a flash shows through a table of places, and that it keeps within the bounds of a flash: the trait asks for that as a member, so its proof stands here.
-use Rattle.std.specs.Prelude.{◌≡◌, ℕ, ◌<◌, ◌≤◌, Bool, true, cond, ◌&&◌, List, [], ◌==◌, nat_le, nat_lt, slice_index, slice_index_or}
+use Rattle.std.specs.Prelude.{◌≡◌, ℕ, ◌<◌, cond, ◌&&◌, Option, Some, None, nat_lt, refl}
 use Rattle.std.proofs.Common.{arith}
-use Rattle.std.proofs.lemmas.Bool.{and_parts, cond_both, cond-false, leb-true, ltb-true}
+use Rattle.std.proofs.lemmas.Bool.{cond_both, cond-false}
+use Rattle.std.specs.Option.{ForSome}
 use Rattle.flash.specs.declared.BlockAddress.{BlockAddress}
-use Rattle.flash.specs.declared.Shape.{Shape}
-use Rattle.flash.specs.Memory.{Memory, Bounds, SoundBlock, no_banks, no_banks_bounds, no_block, no_block_sound, shape_of}
+use Rattle.flash.specs.Memory.{Memory, Bounds, SoundBlock, no_banks, no_banks_bounds, no_block, no_block_sound}
+use Rattle.layers.specs.Replaced.{place_in}
 use Rattle.layers.specs.declared.replacer.places.Places.{Places}
 
--- the place of a block by a row: what the row has for it, where that is a block and has its number in turn, and else itself
-abbrev pub swapped : ℕ → List ℕ → ℕ → ℕ
-swapped blocks row k = cond (nat_lt (slice_index row k) blocks && slice_index row (slice_index row k) == k) (slice_index row k) k
-
-abbrev pub place_of : Places → ℕ → ℕ → ℕ → ℕ
-place_of p blocks b k = swapped blocks (slice_index_or p.table b []) k
-
--- some block is shown, and the flash below has as many
-abbrev pub shows : Places → Shape → Bool
-shows p below = nat_lt 0 p.shown && nat_le p.shown below.blocks
-
--- the block is shown
-abbrev pub shows_block : Places → Shape → ℕ → ℕ → Bool
-shows_block p below b k = shows p below && (nat_lt b below.banks && nat_lt k p.shown)
+-- where a shown block is found
+abbrev pub place_of : Places → ℕ → ℕ → ℕ
+place_of p b k = place_in p.rows b k
 
 -- each shown block, found at its place
 abbrev pub relocated : Places → Memory → Memory
@@ -28,36 +18,37 @@ relocated p m = record {
   banks = m.banks;
   blocks = p.shown;
   depth = m.depth;
-  at = λ b k. cond (nat_lt b m.banks && nat_lt k p.shown) (m.at b (place_of p m.blocks b k)) no_block;
+  at = λ b k. cond (nat_lt b m.banks && nat_lt k p.shown) (m.at b (place_of p b k)) no_block;
 }
 
-abbrev pub shown_by : Places → Memory → Memory
-shown_by p m = cond (shows p (shape_of m)) (relocated p m) no_banks
+-- with no places there are no banks
+abbrev pub shown_by : Option Places → Memory → Memory
+shown_by None m = no_banks
+shown_by (Some p) m = relocated p m
 
 -- the block is shown, and found at `to` below
-pub record Found (p : Places) (below : Shape) (at to : BlockAddress) : Type 0 where
-  pub shown : shows p below ≡ true
-  pub bank : at.bank < below.banks
+pub record Found (p : Places) (at to : BlockAddress) : Type 0 where
+  pub bank : at.bank < p.below.banks
   pub block : at.block < p.shown
   pub same_bank : to.bank ≡ at.bank
-  pub is : to.block ≡ place_of p below.blocks at.bank at.block
+  pub is : to.block ≡ place_of p at.bank at.block
 
 -- ---- the bounds
--- what the test tells
-pub shows_true : (p : Places) (below : Shape) → shows p below ≡ true → (0 < p.shown) × (p.shown ≤ below.blocks)
-shows_true p below e = let x = and_parts (nat_lt 0 p.shown) (nat_le p.shown below.blocks) e in (ltb-true 0 p.shown x.0, leb-true p.shown below.blocks x.1)
+-- the places are those of a flash of this shape
+abbrev pub FitsFlash : Option Places → Memory → Type 0
+FitsFlash places m = ForSome places (λ p. (p.below.banks ≡ m.banks) × ((p.below.blocks ≡ m.blocks) × (p.below.pages ≡ m.depth)))
 
-relocated_bounds : (p : Places) (m : Memory) → Bounds m → (0 < p.shown) × (p.shown ≤ m.blocks) → Bounds (relocated p m)
-relocated_bounds p m bm s = record {
+relocated_bounds : (p : Places) (m : Memory) → Bounds m → p.below.blocks ≡ m.blocks → Bounds (relocated p m)
+relocated_bounds p m bm e = record {
   banks = bm.banks;
-  blocks = omega (arith, s.1, bm.blocks);
+  blocks = omega (arith, p.few_blocks, p.within);
   depth = bm.depth;
-  some = λ h. (s.0, (bm.some h).1);
-  none = λ h. absurd (omega (arith, (bm.none h).0, s.0, s.1));
-  each = λ b k. cond_both (nat_lt b m.banks && nat_lt k p.shown) (m.at b (place_of p m.blocks b k)) no_block (SoundBlock m.depth) (λ _. bm.each b (place_of p m.blocks b k))
-      (λ _. no_block_sound m.depth);
-  outside = λ b k e. cond-false (nat_lt b m.banks && nat_lt k p.shown) (m.at b (place_of p m.blocks b k)) no_block e;
+  some = λ h. (p.some, (bm.some h).1);
+  none = λ h. absurd (omega (arith, (bm.none h).0, p.some, p.within));
+  each = λ b k. cond_both (nat_lt b m.banks && nat_lt k p.shown) (m.at b (place_of p b k)) no_block (SoundBlock m.depth) (λ _. bm.each b (place_of p b k)) (λ _. no_block_sound m.depth);
+  outside = λ b k e. cond-false (nat_lt b m.banks && nat_lt k p.shown) (m.at b (place_of p b k)) no_block e;
 }
 
-pub shown_by_bounds : (p : Places) (m : Memory) → Bounds m → Bounds (shown_by p m)
-shown_by_bounds p m bm = cond_both (shows p (shape_of m)) (relocated p m) no_banks Bounds (λ e. relocated_bounds p m bm (shows_true p (shape_of m) e)) (λ _. no_banks_bounds)
+pub shown_by_bounds : (places : Option Places) (m : Memory) → Bounds m → FitsFlash places m → Bounds (shown_by places m)
+shown_by_bounds None m bm fits = no_banks_bounds
+shown_by_bounds (Some p) m bm fits = relocated_bounds p m bm (fits p refl).1.0

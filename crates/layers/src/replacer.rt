@@ -1,20 +1,21 @@
 // A flash with bad blocks as a smaller flash without them: the last blocks of each bank are spares, and replace the bad ones.
-ghost use Rattle.std.specs.Prelude.{◌≡◌, false, MatchOption};
-ghost use Rattle.flash.specs.Memory.{inside, shape_of};
+ghost use Rattle.std.specs.Prelude.{◌≡◌, false, IsSomeAnd, MatchOption};
+ghost use Rattle.flash.specs.Memory.{inside};
 ghost use Rattle.layers.specs.Replaced.{replaced};
-ghost use Rattle.layers.specs.ReplacedPlaces.{Found, shown_by, shown_by_bounds};
+ghost use Rattle.layers.specs.ReplacedPlaces.{FitsFlash, Found, shown_by, shown_by_bounds};
 
 use self::places::Places;
 use flash::{BlockAddress, Flash, NO_BANKS, Refusal, Shape};
 
-mod bad;
 mod places;
-mod table;
+mod plan;
 
 #[derive(Drop)]
-pub struct Replacer<F> {
+pub struct Replacer<F: Flash> {
     inner: F,
-    places: Places,
+    // none where the bad blocks cannot be replaced
+    places: Option<Places>,
+    ghost fits: { FitsFlash places (F.Flash.memory inner) },
 }
 
 impl<F: Flash> Replacer<F> {
@@ -25,33 +26,27 @@ impl<F: Flash> Replacer<F> {
         ensures memory { shown_by result.places (F.Flash.memory result.inner) ≡ replaced spares bad.now (F.Flash.memory inner) }
         ensures inner { result.inner ≡ inner }
     {
-        let places = Places::new(inner.shape(), spares, bad);
+        let places = Places::new(&inner, spares, bad);
         Replacer { inner, places }
     }
 
     // Where a block is found below, or none where the block is not shown.
     fn find(&self, at: BlockAddress) -> Option<BlockAddress>
-        ensures { MatchOption result (inside (shown_by self.now.places (F.Flash.memory self.now.inner)) at.bank at.block ≡ false) (Found self.now.places (shape_of (F.Flash.memory self.now.inner)) at) }
+        ensures { MatchOption result (inside (shown_by self.now.places (F.Flash.memory self.now.inner)) at.bank at.block ≡ false) (λ to. IsSomeAnd self.now.places (λ p. Found p at to)) }
     {
-        self.places.find(self.inner.shape(), at)
+        self.places.as_ref()?.find(at)
     }
 }
 
 impl<F: Flash> Flash for Replacer<F> {
     ghost memory = { λ s. shown_by s.places (F.Flash.memory s.inner) };
 
-    ghost bounds = { λ s. shown_by_bounds s.places (F.Flash.memory s.inner) (F.Flash.bounds s.inner) };
+    ghost bounds = { λ s. shown_by_bounds s.places (F.Flash.memory s.inner) (F.Flash.bounds s.inner) s.fits };
 
     fn shape(&self) -> Shape {
-        let below = self.inner.shape();
-        if !self.places.fit(below) {
-            return NO_BANKS;
-        }
-        Shape {
-            banks: below.banks,
-            blocks: self.places.shown,
-            pages: below.pages,
-        }
+        self.places
+            .as_ref()
+            .map_or(NO_BANKS, |places| places.shape())
     }
 
     fn standing(&self, at: BlockAddress) -> Option<usize> {

@@ -1,65 +1,59 @@
 // Where the shown blocks are found: worked out once, and looked up in each call.
-ghost use Rattle.std.specs.Prelude.{◌≡◌, ℕ, ◌-◌, ◌<◌, ◌≤◌, false, if◌then◌else◌, MatchOption};
-ghost use Rattle.flash.specs.Maps.{replaced_block};
-ghost use Rattle.layers.specs.Replaced.{replaceable};
-ghost use Rattle.layers.specs.ReplacedPlaces.{Found, place_of, shows, shows_block};
+ghost use Rattle.std.specs.Prelude.{◌≡◌, ℕ, ◌<◌, ◌≤◌, false, MatchOption};
+ghost use Rattle.flash.specs.Memory.{in_shape};
+ghost use Rattle.layers.specs.Replaced.{place_in, replaced};
 
-use super::bad::replaceable;
-use super::table::table;
-use flash::{BlockAddress, Shape};
+use super::plan::Plan;
+use flash::{BlockAddress, Flash, Shape};
 
-// How many blocks of a bank are shown, 0 where the bad blocks cannot be replaced; and for each bank a row in which
-// a shown block has the number of its place, and its place the number of the block.
+// How many blocks of each bank are shown of a flash of the shape `below`, and for each bank a row with the places of these blocks,
+// no two at one place. The rows have room for the largest flash, since the layers allocate nothing.
 #[derive(Drop)]
 pub(super) struct Places {
-    pub shown: usize,
-    table: [[u8; 64]; 16],
+    below: Shape,
+    shown: usize,
+    rows: [[u8; 64]; 16],
+    ghost few_banks: { below.banks ≤ 16 },
+    ghost few_blocks: { below.blocks ≤ 64 },
+    ghost some: { 0 < shown },
+    ghost within: { shown ≤ below.blocks },
+    ghost low: { (b k : ℕ) → b < below.banks → k < shown → place_in rows b k < below.blocks },
+    ghost apart: { (b j k : ℕ) → b < below.banks → j < shown → k < shown → place_in rows b j ≡ place_in rows b k → j ≡ k },
 }
 
 impl Places {
-    // The places over a flash of the shape `below`.
-    pub(crate) fn new(below: Shape, spares: usize, bad: &[BlockAddress]) -> Places
-        requires { (below.banks ≤ 16) × (below.blocks ≤ 64) }
-        ensures shown { result.shown ≡ (if replaceable below.banks below.blocks spares bad.now then below.blocks - spares else 0) }
-        ensures places { (b k : ℕ) → b < below.banks → k < result.shown → place_of result below.blocks b k ≡ replaced_block below.blocks spares bad.now b k }
+    ghost use Rattle.layers.specs.ReplacedPlaces.{FitsFlash, Found, shown_by};
+
+    // The places over the flash `inner`, or none where its bad blocks cannot be replaced.
+    pub fn new<F: Flash>(inner: &F, spares: usize, bad: &[BlockAddress]) -> Option<Places>
+        ensures memory { shown_by result (F.Flash.memory inner.now) ≡ replaced spares bad.now (F.Flash.memory inner.now) }
+        ensures fits { FitsFlash result (F.Flash.memory inner.now) }
     {
-        if !replaceable(below.banks, below.blocks, spares, bad) {
-            return Places {
-                shown: 0,
-                table: [[0; 64]; 16],
-            };
-        }
-        Places {
-            shown: below.blocks - spares,
-            table: table(bad, below.banks, below.blocks, spares),
+        let plan = Plan::new(inner, spares, bad)?;
+        Some(Places {
+            below: plan.below,
+            shown: plan.shown(),
+            rows: plan.rows(),
+        })
+    }
+
+    // The shape of what is shown.
+    pub fn shape(&self) -> Shape
+        ensures { result ≡ record { banks = self.now.below.banks; blocks = self.now.shown; pages = self.now.below.pages } }
+    {
+        Shape {
+            blocks: self.shown,
+            ..self.below
         }
     }
 
-    // Whether any block is shown over a flash of this shape.
-    pub(crate) fn fit(&self, below: Shape) -> bool
-        ensures { result ≡ shows self.now below }
+    // Where a block is found below, or none where the block is not shown.
+    pub fn find(&self, at: BlockAddress) -> Option<BlockAddress>
+        ensures { MatchOption result (in_shape (record { banks = self.now.below.banks; blocks = self.now.shown; pages = self.now.below.pages }) at.bank at.block ≡ false) (Found self.now at) }
     {
-        0 < self.shown && self.shown <= below.blocks
-    }
-
-    // Where a block is found below, or none where the block is not shown. The contracts speak of every value of the type,
-    // and in a row that `new` did not make two blocks could have one place. So a block and its place must name each
-    // other: then no two blocks meet, whatever the row. On what `new` made, this test holds.
-    pub(crate) fn find(&self, below: Shape, at: BlockAddress) -> Option<BlockAddress>
-        requires { (below.banks ≤ 16) × (below.blocks ≤ 64) }
-        ensures { MatchOption result (shows_block self.now below at.bank at.block ≡ false) (Found self.now below at) }
-    {
-        if !self.fit(below) || at.bank >= below.banks || at.block >= self.shown {
-            return None;
-        }
-        let row = &self.table[at.bank];
-        let place = row[at.block] as usize;
-        if place < below.blocks && row[place] as usize == at.block {
-            return Some(BlockAddress {
-                bank: at.bank,
-                block: place,
-            });
-        }
-        Some(at)
+        self.shape().contains(at).then(|| BlockAddress {
+            block: usize::from(self.rows[at.bank][at.block]),
+            ..at
+        })
     }
 }

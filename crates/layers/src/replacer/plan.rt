@@ -1,0 +1,139 @@
+// How the last blocks of each bank replace the bad ones.
+ghost use Rattle.std.specs.Prelude.{◌≡◌, ℕ, ◌-◌, ◌<◌, ◌≤◌, true, false, length, slice_get, slice_index, MatchOption};
+ghost use Rattle.std.specs.List.{range_with_len};
+ghost use Rattle.flash.specs.Maps.{bad_of, good_of, is_bad};
+ghost use Rattle.flash.specs.Memory.{shape_of};
+ghost use Rattle.layers.specs.Replaced.{enough, listed, place_in, replaceable};
+
+use flash::{BlockAddress, Flash, Shape};
+use std::ops::Range;
+
+// Whether the list has the block.
+fn is_bad(bad: &[BlockAddress], bank: usize, block: usize) -> bool
+    ensures { result ≡ is_bad bad.now bank block }
+{
+    bad.contains(&BlockAddress { bank, block })
+}
+
+// How many of these blocks of a bank are bad.
+fn count_bad(bad: &[BlockAddress], bank: usize, blocks: Range<usize>) -> usize
+    ensures { result ≡ length (bad_of bad.now bank (range_with_len blocks.start (blocks.end - blocks.start))) }
+{
+    blocks.filter(|&block| is_bad(bad, bank, block)).count()
+}
+
+// How many are good.
+fn count_good(bad: &[BlockAddress], bank: usize, blocks: Range<usize>) -> usize
+    ensures { result ≡ length (good_of bad.now bank (range_with_len blocks.start (blocks.end - blocks.start))) }
+{
+    blocks.filter(|&block| !is_bad(bad, bank, block)).count()
+}
+
+// Whether each bad block is a block of the flash, and none is repeated.
+fn listed(below: Shape, bad: &[BlockAddress]) -> bool
+    ensures { result ≡ listed below.banks below.blocks bad.now }
+{
+    bad.iter().enumerate().all(|(i, at)| below.contains(*at) && !bad[i + 1..].contains(at))
+}
+
+// Whether each bank has a good spare for each of its bad shown blocks.
+fn enough(below: Shape, spares: usize, bad: &[BlockAddress]) -> bool
+    requires { spares ≤ below.blocks }
+    ensures { result ≡ enough below.blocks spares bad.now below.banks }
+{
+    let shown = below.blocks - spares;
+    (0..below.banks).all(|bank| {
+        count_bad(bad, bank, 0..shown) <= count_good(bad, bank, shown..below.blocks)
+    })
+}
+
+// Whether the last `spares` blocks of each bank can replace the bad blocks.
+fn replaceable(below: Shape, spares: usize, bad: &[BlockAddress]) -> bool
+    ensures { result ≡ replaceable below.banks below.blocks spares bad.now }
+{
+    spares <= 8
+        && spares < below.blocks
+        && bad.len() <= 32
+        && listed(below, bad)
+        && enough(below, spares, bad)
+}
+
+// A flash of the shape `below`, and its bad blocks, which the last `spares` blocks of each bank can replace.
+#[derive(Drop)]
+pub(super) struct Plan<'a> {
+    pub below: Shape,
+    spares: usize,
+    bad: &'a [BlockAddress],
+    ghost few_banks: { below.banks ≤ 16 },
+    ghost few_blocks: { below.blocks ≤ 64 },
+    ghost some_shown: { spares < below.blocks },
+    ghost can: { replaceable below.banks below.blocks spares bad.now ≡ true },
+}
+
+impl<'a> Plan<'a> {
+    ghost use Rattle.layers.specs.ReplacedPlan.{planned, shown_of};
+
+    // The plan for the flash `inner`, or none where the spares cannot replace its bad blocks.
+    pub fn new<F: Flash>(inner: &F, spares: usize, bad: &'a [BlockAddress]) -> Option<Plan<'a>>
+        ensures { let m = F.Flash.memory inner.now in MatchOption result (replaceable m.banks m.blocks spares bad.now ≡ false) (λ p. (p.below ≡ shape_of m) × (p.spares ≡ spares) × (p.bad.now ≡ bad.now)) }
+    {
+        let below = inner.shape();
+        if !replaceable(below, spares, bad) {
+            return None;
+        }
+        Some(Plan { below, spares, bad })
+    }
+
+    // How many blocks of each bank are shown.
+    pub fn shown(&self) -> usize
+        ensures { result ≡ shown_of self.now }
+    {
+        self.below.blocks - self.spares
+    }
+
+    // The good spare of a bank with this index.
+    fn good_spare(&self, bank: usize, index: usize) -> Option<usize>
+        ensures { result ≡ slice_get (good_of self.now.bad.now bank (range_with_len (shown_of self.now) self.now.spares)) index }
+    {
+        (self.shown()..self.below.blocks)
+            .filter(|&spare| !is_bad(self.bad, bank, spare))
+            .nth(index)
+    }
+
+    // Where a shown block is found: a good one is itself, and the bad ones, rising, take the good spares, rising.
+    fn place(&self, bank: usize, block: usize) -> usize
+        requires bank { bank < self.now.below.banks }
+        requires shown { block < shown_of self.now }
+        ensures is { result ≡ planned self.now bank block }
+        ensures low { result < self.now.below.blocks }
+    {
+        if !is_bad(self.bad, bank, block) {
+            return block;
+        }
+        let before = count_bad(self.bad, bank, 0..block);
+        self.good_spare(bank, before).unwrap()
+    }
+
+    // The places of the shown blocks of a bank.
+    fn row(&self, bank: usize) -> [u8; 64]
+        requires { bank < self.now.below.banks }
+        ensures { (k : ℕ) → k < shown_of self.now → slice_index result k ≡ planned self.now bank k }
+    {
+        let mut row = [0; 64];
+        for (block, place) in row[..self.shown()].iter_mut().enumerate() {
+            *place = self.place(bank, block) as u8;
+        }
+        row
+    }
+
+    // The rows of all banks.
+    pub fn rows(&self) -> [[u8; 64]; 16]
+        ensures { (b k : ℕ) → b < self.now.below.banks → k < shown_of self.now → place_in result b k ≡ planned self.now b k }
+    {
+        let mut rows = [[0; 64]; 16];
+        for (bank, row) in rows[..self.below.banks].iter_mut().enumerate() {
+            *row = self.row(bank);
+        }
+        rows
+    }
+}
