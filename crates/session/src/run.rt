@@ -1,7 +1,6 @@
 // A line, run on a card.
 ghost use Rattle.std.specs.Prelude.{◌≡◌, replicate, IfOk, string_bytes};
 ghost use Rattle.flatcard.specs.Calls.{report};
-ghost use Rattle.zones.specs.Intact.{Intact};
 ghost use Rattle.zones.specs.View.{flat_card, surveyed};
 ghost use Rattle.session.specs.Commands.{command_of};
 ghost use Rattle.session.specs.Replies.{card_after, fresh_line, reply_text, report_text, shown};
@@ -19,7 +18,7 @@ fn report<F: Flash>(
     first: usize,
     count: usize,
 ) -> Result<Reply, AllocError>
-    ensures { IfOk result (λ reply. shown reply ≡ report_text (report (flat_card F.Flash.memory card.now) first (replicate count fresh_line))) }
+    ensures { IfOk result (λ reply. shown reply ≡ report_text (report (flat_card card.now) first (replicate count fresh_line))) }
 {
     let mut zones = vec![in heap; ZoneReport::default(); count]?;
     let answer = card.report(first, zones.as_mut_slice());
@@ -28,10 +27,9 @@ fn report<F: Flash>(
 
 // Runs the command that a line writes.
 fn run<F: Flash>(heap: Global, card: &mut Card<F>, line: &[u8]) -> Result<Reply, AllocError>
-    ensures text { IfOk result (λ reply. shown reply ≡ reply_text (surveyed F.Flash.memory card.old) (flat_card F.Flash.memory card.old) (command_of line.now)) }
-    ensures flat { flat_card F.Flash.memory card.new ≡ card_after (surveyed F.Flash.memory card.old) (flat_card F.Flash.memory card.old) (command_of line.now) }
+    ensures text { IfOk result (λ reply. shown reply ≡ reply_text (surveyed card.old) (flat_card card.old) (command_of line.now)) }
+    ensures flat { flat_card card.new ≡ card_after (surveyed card.old) (flat_card card.old) (command_of line.now) }
     ensures flash { card.new.flash ≡ card.old.flash }
-    ensures intact { Intact F.Flash.memory card.old → Intact F.Flash.memory card.new }
 {
     match Command::try_from(line) {
         Err(NoCommand) => Ok(Reply::Unknown),
@@ -42,10 +40,9 @@ fn run<F: Flash>(heap: Global, card: &mut Card<F>, line: &[u8]) -> Result<Reply,
 
 // Runs the command that a line writes, and makes the text that answers the line.
 pub fn answer<F: Flash>(heap: Global, card: &mut Card<F>, line: &[u8]) -> Result<String, AllocError>
-    ensures text { IfOk result (λ s. string_bytes s ≡ reply_text (surveyed F.Flash.memory card.old) (flat_card F.Flash.memory card.old) (command_of line.now)) }
-    ensures flat { flat_card F.Flash.memory card.new ≡ card_after (surveyed F.Flash.memory card.old) (flat_card F.Flash.memory card.old) (command_of line.now) }
+    ensures text { IfOk result (λ s. string_bytes s ≡ reply_text (surveyed card.old) (flat_card card.old) (command_of line.now)) }
+    ensures flat { flat_card card.new ≡ card_after (surveyed card.old) (flat_card card.old) (command_of line.now) }
     ensures flash { card.new.flash ≡ card.old.flash }
-    ensures intact { Intact F.Flash.memory card.old → Intact F.Flash.memory card.new }
 {
     let reply = run(heap, card, line)?;
     format!(in heap; "{reply}")
