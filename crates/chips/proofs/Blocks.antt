@@ -1,11 +1,13 @@
 -- What a bare chip shows of one block, and of all blocks after one has changed.
-use Rattle.std.proofs.Common.{◌≡◌, ℕ, ◌*◌, ◌<◌, ◌≤◌, min, true, ◌&&◌, eqb, ◌≢◌, List, map, length, get_or, set, sym, ap, ◌∙◌, arith}
+use Rattle.std.proofs.Common.{◌≡◌, ℕ, ◌+◌, ◌*◌, ◌<◌, ◌≤◌, min, true, ◌&&◌, eqb, ◌≢◌, List, map, length, get_or, set, sym, ap, ◌∙◌, arith}
 use Rattle.std.proofs.lemmas.List.{ext_get_or, get_or-map, get_or-set_same, get_or-set_other, length-map, length-set, map-set}
+use Rattle.std.proofs.lemmas.List.FromFn.{length-map-range_with_len}
 use Rattle.std.proofs.lemmas.Bool.{and_from, cond-true}
 use Rattle.flash.specs.Memory.{Block, no_banks}
 use Rattle.flash.specs.Calls.{Spot, spot, with_block}
 use Rattle.chips.specs.Bounded.{clamped_valid}
-use Rattle.chips.specs.Layout.{Found, Parts, Valid, block_at, block_count, block_of, clamped, counts_fit, laid_out, made_of, new_memory, no_record, pages_at, shape_fits, shown, sizes_fit, with_clamped}
+use Rattle.chips.specs.Checks.{Shows}
+use Rattle.chips.specs.Layout.{Found, Parts, Valid, block_at, block_count, block_of, clamped, counts_fit, laid_out, made_of, new_memory, no_record, page_at, pages_at, shape_fits, shown, sizes_fit, with_clamped}
 use Rattle.chips.specs.declared.record.BlockRecord.{BlockRecord}
 use Rattle.chips.proofs.Numbered.{numbered_changed, numbered_spot}
 
@@ -39,6 +41,16 @@ module _ {c : Parts} {b k i : ℕ} (found : Found c b k i) where
       ∙ (numbered_spot c.shape (block_at (with_clamped c)) b k i found.bank found.block found.number
       ∙ ap (λ r. record { here = true; depth = c.shape.pages; block = block_of c i r })
       (get_or-map (clamped c.shape.pages) c.records i no_record no_record (omega arith)))
+
+  -- what the checks of a call ask of the block
+  pub found_shows : (n : ℕ) → n ≡ min (get_or c.records i no_record).standing c.shape.pages → Shows (spot (shown c) b k) c.shape.pages n
+  found_shows n e =
+      record {
+        here = ap (λ s. s.here) found_spot;
+        depth = ap (λ s. s.depth) found_spot;
+        stands = ap (λ s. length s.block.pages) found_spot
+            ∙ (length-map-range_with_len (λ p. page_at c.bytes (i * c.shape.pages + p)) 0 (min (get_or c.records i no_record).standing c.shape.pages) ∙ sym e);
+      }
 
   -- a chip with another record for the block, and bytes that leave the pages of the other blocks
   module _ (bytes : List ℕ) (r : BlockRecord) (long : length bytes ≡ length c.bytes)

@@ -1,5 +1,6 @@
 pub mod Layout
 pub mod Shapes
+pub mod Checks
 pub mod Numbered
 pub mod Bounded
 pub mod ImageLayout

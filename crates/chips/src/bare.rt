@@ -7,9 +7,10 @@ ghost use Rattle.flash.specs.Numbers.{answer};
 ghost use Rattle.chips.specs.Bounded.{bounds_of};
 ghost use Rattle.chips.specs.Layout.{Found, Valid, counts_fit, made_of, memory_of, new_memory, parts_of, sizes_fit};
 
+use crate::checks::{check_program, check_read};
 use crate::record::BlockRecord;
 use crate::shapes::shape_fits;
-use flash::{Flash, NO_BANKS, PAGE, QUARTER, Refusal, Shape};
+use flash::{BlockAddress, Flash, NO_BANKS, PAGE, QUARTER, Refusal, Shape};
 
 #[derive(Drop)]
 pub struct BareChip<'a> {
@@ -71,11 +72,11 @@ impl<'a> BareChip<'a> {
     }
 
     // The number of a block, counted from 0 over the whole chip, or none where the chip does not show the block.
-    fn number_of(&self, bank: usize, block: usize) -> Option<usize>
-        ensures { MatchOption result (inside (memory_of self.now) bank block ≡ false) (Found (parts_of self.now) bank block) }
+    fn number_of(&self, at: BlockAddress) -> Option<usize>
+        ensures { MatchOption result (inside (memory_of self.now) at.bank at.block ≡ false) (Found (parts_of self.now) at.bank at.block) }
     {
-        if self.shows_banks() && bank < self.shape.banks && block < self.shape.blocks {
-            Some(bank * self.shape.blocks + block)
+        if self.shows_banks() && at.bank < self.shape.banks && at.block < self.shape.blocks {
+            Some(at.bank * self.shape.blocks + at.block)
         } else {
             None
         }
@@ -96,15 +97,15 @@ impl<'a> Flash for BareChip<'a> {
     }
 
     // `new` lets no record through that counts more pages than a block has: on what it made, `min` changes nothing.
-    fn standing(&self, bank: usize, block: usize) -> Option<usize> {
-        match self.number_of(bank, block) {
+    fn standing(&self, at: BlockAddress) -> Option<usize> {
+        match self.number_of(at) {
             Some(i) => Some(self.records[i].standing_pages().min(self.shape.pages)),
             None => None,
         }
     }
 
-    fn lives(&self, bank: usize, block: usize) -> Option<u16> {
-        match self.number_of(bank, block) {
+    fn lives(&self, at: BlockAddress) -> Option<u16> {
+        match self.number_of(at) {
             Some(i) => Some(self.records[i].lives_left()),
             None => None,
         }
@@ -112,54 +113,33 @@ impl<'a> Flash for BareChip<'a> {
 
     fn read(
         &self,
-        bank: usize,
-        block: usize,
+        at: BlockAddress,
         page: usize,
         quarter: usize,
         buffer: &mut [u8],
     ) -> Result<(), Refusal> {
-        let Some(i) = self.number_of(bank, block) else {
+        let Some(i) = self.number_of(at) else {
             return Err(Refusal::Outside);
         };
-        if page >= self.shape.pages || quarter >= 4 {
-            return Err(Refusal::Outside);
-        }
-        if buffer.len() != QUARTER {
-            return Err(Refusal::Length);
-        }
-        if page >= self.records[i].standing_pages() {
-            return Err(Refusal::Blank);
-        }
+        let standing = self.records[i].standing_pages().min(self.shape.pages);
+        check_read(self.shape.pages, standing, page, quarter, buffer.len())?;
         let start = (i * self.shape.pages + page) * PAGE + quarter * QUARTER;
         buffer.copy_from_slice(&self.bytes[start..start + QUARTER]);
         Ok(())
     }
 
     // Where it is refused, it also leaves the bytes of pages that do not stand.
-    fn program(
-        &mut self,
-        bank: usize,
-        block: usize,
-        page: usize,
-        bytes: &[u8],
-    ) -> Result<(), Refusal>
-        ensures answer { answer result ≡ program_number (spot (memory_of self.old) bank block) page bytes.now }
-        ensures after { memory_of self.new ≡ programmed (memory_of self.old) bank block page bytes.now }
+    fn program(&mut self, at: BlockAddress, page: usize, bytes: &[u8]) -> Result<(), Refusal>
+        ensures answer { answer result ≡ program_number (spot (memory_of self.old) at.bank at.block) page bytes.now }
+        ensures after { memory_of self.new ≡ programmed (memory_of self.old) at.bank at.block page bytes.now }
         ensures refused { is_ok result ≡ false → parts_of self.new ≡ parts_of self.old }
     {
-        let Some(i) = self.number_of(bank, block) else {
+        let Some(i) = self.number_of(at) else {
             return Err(Refusal::Outside);
         };
-        if page >= self.shape.pages {
-            return Err(Refusal::Outside);
-        }
-        if bytes.len() != PAGE {
-            return Err(Refusal::Length);
-        }
         let BlockRecord { standing, lives } = self.records[i];
-        if page != standing as usize {
-            return Err(Refusal::Order);
-        }
+        let count = usize::from(standing).min(self.shape.pages);
+        check_program(self.shape.pages, count, page, bytes.len())?;
         let start = (i * self.shape.pages + page) * PAGE;
         self.bytes[start..start + PAGE].copy_from_slice(bytes);
         self.records[i] = BlockRecord {
@@ -170,13 +150,13 @@ impl<'a> Flash for BareChip<'a> {
     }
 
     // Also leaves the bytes of the pages, though none of the block's pages stands any more.
-    fn erase(&mut self, bank: usize, block: usize) -> Result<(), Refusal>
-        ensures answer { answer result ≡ erase_number (spot (memory_of self.old) bank block) }
-        ensures after { memory_of self.new ≡ erased (memory_of self.old) bank block }
+    fn erase(&mut self, at: BlockAddress) -> Result<(), Refusal>
+        ensures answer { answer result ≡ erase_number (spot (memory_of self.old) at.bank at.block) }
+        ensures after { memory_of self.new ≡ erased (memory_of self.old) at.bank at.block }
         ensures bytes { (parts_of self.new).bytes ≡ (parts_of self.old).bytes }
         ensures refused { is_ok result ≡ false → parts_of self.new ≡ parts_of self.old }
     {
-        let Some(i) = self.number_of(bank, block) else {
+        let Some(i) = self.number_of(at) else {
             return Err(Refusal::Outside);
         };
         let lives = self.records[i].lives_left();

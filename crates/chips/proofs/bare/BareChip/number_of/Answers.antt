@@ -4,8 +4,8 @@ use Rattle.chips.specs.Layout.{parts_of, sizes_fit}
 use Rattle.chips.specs.Shapes.{few_in_all}
 use Rattle.chips.proofs.bare.BareChip.number_of.Goals as goal
 
-pub returns-then-block-self : goal.returns-then-block-self
-returns-then-block-self c =
+pub returns-then-at-self-2 : goal.returns-then-at-self-2
+returns-then-at-self-2 c =
     let s = c.args.self.now.shape in
     let e : sizes_fit (parts_of c.args.self.now) ≡ true = search rules in
     let f = sizes_of (parts_of c.args.self.now) e in
