@@ -1,11 +1,9 @@
 -- What an image shows of one block, and of all blocks after the bytes of one have changed.
 use Rattle.std.proofs.Common.{◌≡◌, ℕ, ◌+◌, ◌-◌, ◌*◌, ◌<◌, ◌≤◌, min, true, ◌&&◌, eqb, ◌≢◌, List, map, length, get_or, sym, refl, ap, ◌∙◌, arith}
 use Rattle.std.specs.List.{range_with_len}
-use Rattle.std.proofs.lemmas.Bool.{cond-true}
-use Rattle.flash.specs.Memory.{no_banks}
 use Rattle.flash.specs.Calls.{Spot, spot, with_block}
 use Rattle.chips.specs.ImageBounded.{standing_most}
-use Rattle.chips.specs.ImageLayout.{FoundAt, block_in, block_size, block_start, image_length, image_sizes_fit, lives_in, page_in, page_start, shown_image, standing_in, stored}
+use Rattle.chips.specs.ImageLayout.{FoundAt, block_in, block_size, block_start, image_length, image_sizes_fit, lives_in, page_in, page_start, stored, standing_in, stored}
 use Rattle.chips.specs.Layout.{shape_fits}
 use Rattle.flash.specs.declared.Shape.{Shape}
 use Rattle.chips.proofs.ImageMarks.{SameMark, mark_same, standing_same}
@@ -36,14 +34,10 @@ module _ {s : Shape} {bytes : List ℕ} {b k start : ℕ} (found : FoundAt s byt
   abbrev pub seen : Spot
   seen = record { here = true; depth = s.pages; block = block_in bytes start s.pages }
 
-  shown_is : shown_image s bytes ≡ stored s bytes
-  shown_is = cond-true (image_sizes_fit s bytes) _ no_banks found.sizes
-
-  pub image_spot : spot (shown_image s bytes) b k ≡ seen
+  pub image_spot : spot (stored s bytes) b k ≡ seen
   image_spot =
-      ap (λ m. spot m b k) shown_is
-      ∙ (numbered_spot s (λ i. block_in bytes (block_start s i) s.pages) b k (b * s.blocks + k) found.bank found.block refl
-      ∙ ap (λ n. record { here = true; depth = s.pages; block = block_in bytes n s.pages }) (sym found.starts))
+      numbered_spot s (λ i. block_in bytes (block_start s i) s.pages) b k (b * s.blocks + k) found.bank found.block refl
+      ∙ ap (λ n. record { here = true; depth = s.pages; block = block_in bytes n s.pages }) (sym found.starts)
 
   -- as many bytes, the same but for those of the block after its mark
   module _ (now : List ℕ) (long : length now ≡ length bytes) (apart : (n : ℕ) → (start + 2 ≤ n → n < start + block_size s → ⊥) → get_or now n 0 ≡ get_or bytes n 0) where
@@ -55,10 +49,9 @@ module _ {s : Shape} {bytes : List ℕ} {b k start : ℕ} (found : FoundAt s byt
     others_alike j other n low high =
         apart n (λ l h. other (same_row j (b * s.blocks + k) (block_size s) (n - block_start s j) (n - start) (omega arith) (omega arith) (omega (arith, found.starts))))
 
-    pub image_changed : shown_image s now ≡ with_block (shown_image s bytes) b k (block_in now start s.pages)
+    pub image_changed : stored s now ≡ with_block (stored s bytes) b k (block_in now start s.pages)
     image_changed =
-        cond-true (image_sizes_fit s now) _ no_banks still_fits
-        ∙ (numbered_changed s (λ i. block_in bytes (block_start s i) s.pages) b k (b * s.blocks + k) found.bank found.block refl
+        numbered_changed s (λ i. block_in bytes (block_start s i) s.pages) b k (b * s.blocks + k) found.bank found.block refl
         (λ i. block_in now (block_start s i) s.pages)
         (λ j _ other. block_alike now bytes (block_start s j) s.pages long (λ n low high. others_alike j other n low (omega arith)))
-        ∙ (λ t. with_block (sym shown_is t) b k (block_in now (sym found.starts t) s.pages)))
+        ∙ (λ t. with_block (stored s bytes) b k (block_in now (sym found.starts t) s.pages))

@@ -3,13 +3,14 @@ use Rattle.std.proofs.Common.{◌≡◌, ℕ, suc, ◌+◌, ◌-◌, ◌*◌, �
 use Rattle.std.specs.List.{range_with_len}
 use Rattle.std.proofs.lemmas.List.FromFn.{get_or-map-range_with_len, length-map-range_with_len, map-range_with_len_more}
 use Rattle.std.proofs.lemmas.List.{get_or-replicate, length-replicate, take_all}
-use Rattle.flash.specs.Calls.{emptied, erase_number, program_number, quarter_of, read_number, spot, standing_at, with_block, written}
-use Rattle.flash.proofs.Calls.{erase_done, erase_worn, program_done, program_order, read_blank, read_done}
+use Rattle.flash.specs.Calls.{emptied, erase_number, quarter_of, spot, standing_at, with_block, written}
+use Rattle.flash.proofs.Calls.{erase_done, erase_worn}
 use Rattle.flash.specs.declared.Shape.{Shape}
-use Rattle.chips.specs.ImageLayout.{FoundAt, block_in, block_size, lives_in, opened, page_in, page_start, shown_image, standing_in, standing_mark, with_blank_pages, with_page}
+use Rattle.chips.specs.Checks.{Shows}
+use Rattle.chips.specs.ImageLayout.{FoundAt, block_in, block_size, lives_in, named_shape, page_in, page_start, stored, standing_in, standing_mark, with_blank_pages, with_page}
 use Rattle.chips.proofs.ImageBlocks.{image_changed, image_spot, seen}
 use Rattle.chips.proofs.ImageMarks.{SameMark, mark_same, pages_blank, pages_programmed, standing_blank, standing_programmed}
-use Rattle.chips.proofs.ImageReopens.{reopens_changed}
+use Rattle.chips.proofs.ImageReopens.{named_changed}
 use Rattle.chips.proofs.Pages.{quarter_in, same_counted}
 use Rattle.chips.proofs.Stretches.{length-put, put_inside, put_outside, put_part, same_part}
 
@@ -20,30 +21,26 @@ module _ {s : Shape} {bytes : List ℕ} {b k start : ℕ} (found : FoundAt s byt
   found_count : length (seen found).block.pages ≡ count
   found_count = length-map-range_with_len (page_in bytes start) 0 count
 
-  pub found_standing : standing_at (spot (shown_image s bytes) b k) ≡ Some count
+  pub found_standing : standing_at (spot (stored s bytes) b k) ≡ Some count
   found_standing = ap standing_at (image_spot found) ∙ ap Some found_count
 
+  -- what the checks of a call ask of the block
+  pub found_shows : (n : ℕ) → n ≡ count → Shows (spot (stored s bytes) b k) s.pages n
+  found_shows n e = record {
+    here = ap (λ v. v.here) (image_spot found);
+    depth = ap (λ v. v.depth) (image_spot found);
+    stands = ap (λ v. length v.block.pages) (image_spot found) ∙ (found_count ∙ sym e);
+  }
+
   -- ---- read
-  module _ (p q : ℕ) (buffer : List ℕ) (low : p < s.pages) (part : q < 4) (long : length buffer ≡ 512) where
-    pub found_blank : count ≤ p → read_number (spot (shown_image s bytes) b k) p q buffer ≡ 4
-    found_blank h = ap (λ v. read_number v p q buffer) (image_spot found) ∙ read_blank (seen found) p q buffer refl low part long (omega (arith, found_count))
-
-    pub found_reads : p < count → read_number (spot (shown_image s bytes) b k) p q buffer ≡ 0
-    found_reads h = ap (λ v. read_number v p q buffer) (image_spot found) ∙ read_done (seen found) p q buffer refl low part long (omega (arith, found_count))
-
-    pub found_quarter : p < count → quarter_of (get_or (spot (shown_image s bytes) b k).block.pages p []) q ≡ take 512 (drop (page_start start p + 2 + q * 512) bytes)
+  module _ (p q : ℕ) (part : q < 4) where
+    pub found_quarter : p < count → quarter_of (get_or (spot (stored s bytes) b k).block.pages p []) q ≡ take 512 (drop (page_start start p + 2 + q * 512) bytes)
     found_quarter h =
         ap (λ v. quarter_of (get_or v.block.pages p []) q) (image_spot found)
         ∙ (ap (λ x. quarter_of x q) (get_or-map-range_with_len (page_in bytes start) 0 count p p [] h (omega arith)) ∙ quarter_in bytes (page_start start p + 2) q part)
 
   -- ---- program
   module _ (p : ℕ) (page : List ℕ) (low : p < s.pages) (long : length page ≡ 2048) where
-    pub found_order : (p ≡ count → ⊥) → program_number (spot (shown_image s bytes) b k) p page ≡ 3
-    found_order other = ap (λ v. program_number v p page) (image_spot found) ∙ program_order (seen found) p page refl low long (λ e. other (e ∙ found_count))
-
-    pub found_programs : p ≡ count → program_number (spot (shown_image s bytes) b k) p page ≡ 0
-    found_programs is = ap (λ v. program_number v p page) (image_spot found) ∙ program_done (seen found) p page refl low long (omega (arith, found_count))
-
     -- the bytes with the page after those that stand
     module _ (is : p ≡ count) where
       abbrev place : ℕ
@@ -91,19 +88,19 @@ module _ {s : Shape} {bytes : List ℕ} {b k start : ℕ} (found : FoundAt s byt
             lives = min (outside (start + 2) (λ l u. omega arith) t + outside (start + 3) (λ l u. omega arith) t * 256) 65535;
           }
 
-      pub shown_programmed : shown_image s now ≡ with_block (shown_image s bytes) b k (written ((shown_image s bytes).at b k) page)
+      pub shown_programmed : stored s now ≡ with_block (stored s bytes) b k (written ((stored s bytes).at b k) page)
       shown_programmed =
           image_changed found now long_now apart
-          ∙ ap (with_block (shown_image s bytes) b k) (block_now ∙ sym (ap (λ v. written v.block page) (image_spot found)))
+          ∙ ap (with_block (stored s bytes) b k) (block_now ∙ sym (ap (λ v. written v.block page) (image_spot found)))
 
-      pub reopens_programmed : opened bytes ≡ shown_image s bytes → opened now ≡ shown_image s now
-      reopens_programmed = reopens_changed found now long_now apart (pages_programmed bytes now start p here other s.pages (sym is))
+      pub named_programmed : s ≡ named_shape bytes → s ≡ named_shape now
+      named_programmed = named_changed found now long_now apart (pages_programmed bytes now start p here other s.pages (sym is))
 
   -- ---- erase
-  pub found_worn : lives_in bytes start ≡ 0 → erase_number (spot (shown_image s bytes) b k) ≡ 5
+  pub found_worn : lives_in bytes start ≡ 0 → erase_number (spot (stored s bytes) b k) ≡ 5
   found_worn e = ap erase_number (image_spot found) ∙ erase_worn (seen found) refl e
 
-  pub found_erases : 0 < lives_in bytes start → erase_number (spot (shown_image s bytes) b k) ≡ 0
+  pub found_erases : 0 < lives_in bytes start → erase_number (spot (stored s bytes) b k) ≡ 0
   found_erases h = ap erase_number (image_spot found) ∙ erase_done (seen found) refl h
 
   -- the bytes with blank pages and one life less
@@ -148,10 +145,10 @@ module _ {s : Shape} {bytes : List ℕ} {b k start : ℕ} (found : FoundAt s byt
       let none = standing_blank blanked start s.pages marks_blanked s.pages (omega arith) in
       λ t. record { pages = map (page_in blanked start) (range_with_len 0 (none t)); lives = lives_blanked t }
 
-  pub shown_erased : shown_image s blanked ≡ with_block (shown_image s bytes) b k (emptied ((shown_image s bytes).at b k))
+  pub shown_erased : stored s blanked ≡ with_block (stored s bytes) b k (emptied ((stored s bytes).at b k))
   shown_erased =
       image_changed found blanked long_blanked apart_blanked
-      ∙ ap (with_block (shown_image s bytes) b k) (block_blanked ∙ sym (ap (λ v. emptied v.block) (image_spot found)))
+      ∙ ap (with_block (stored s bytes) b k) (block_blanked ∙ sym (ap (λ v. emptied v.block) (image_spot found)))
 
-  pub reopens_erased : opened bytes ≡ shown_image s bytes → opened blanked ≡ shown_image s blanked
-  reopens_erased = reopens_changed found blanked long_blanked apart_blanked (λ _. pages_blank blanked start s.pages marks_blanked)
+  pub named_erased : s ≡ named_shape bytes → s ≡ named_shape blanked
+  named_erased = named_changed found blanked long_blanked apart_blanked (λ _. pages_blank blanked start s.pages marks_blanked)

@@ -1,11 +1,14 @@
 -- That an image shows what opening its bytes shows, and goes on doing so after each call.
-use Rattle.std.proofs.Common.{◌≡◌, ℕ, ◌+◌, ◌*◌, ◌<◌, ◌≤◌, true, cond, ◌&&◌, eqb, List, length, get_or, sym, ap, ◌∙◌, ⊎_elim, arith}
+use Rattle.std.proofs.Common.{◌≡◌, ℕ, ◌+◌, ◌*◌, ◌<◌, ◌≤◌, true, ◌&&◌, eqb, List, length, get_or, sym, ap, ◌∙◌, ⊎_elim, arith}
 use Rattle.std.proofs.lemmas.Bool.{and_from, and_parts, cases_Bool, cases_eq, cond-false, cond-true}
 use Rattle.flash.specs.Memory.{no_banks}
 use Rattle.flash.specs.declared.Shape.{Shape}
-use Rattle.chips.specs.ImageLayout.{FoundAt, block_fits, block_mark, block_size, block_start, blocks_fit, header_mark, image_sizes_fit, is_image, opened, pages_fit, shape_in, shown_image, stored}
+use Rattle.chips.specs.ImageLayout.{FoundAt, block_fits, block_mark, block_size, block_start, blocks_fit, header_mark, image_sizes_fit, is_image, named_shape, opened, pages_fit, shape_in, stored}
+use Rattle.chips.specs.ImageBounded.{empty_stored, named_by_banks, named_by_image}
+use Rattle.chips.specs.ImageMemory.{Reopens, bytes_of}
 use Rattle.chips.specs.Layout.{block_count}
 use Rattle.chips.specs.Shapes.{no_shape}
+use Rattle.chips.specs.declared.image.CardImage.{CardImage}
 use Rattle.chips.proofs.ImageBlocks.{marks_alike, others_alike, still_fits}
 use Rattle.chips.proofs.ImageMarks.{blocks_each, mark_same, pages_same}
 
@@ -18,13 +21,13 @@ image_parts bytes e =
     (all.0, rest.0, rest.1)
 
 -- an image with the shape that opening finds shows what opening shows
-pub opened_shown : (bytes : List ℕ) → shown_image (cond (is_image bytes) (shape_in bytes) no_shape) bytes ≡ opened bytes
-opened_shown bytes =
+pub reopens : (s : Shape) (bytes : List ℕ) → s ≡ named_shape bytes → opened bytes ≡ stored s bytes
+reopens s bytes named =
     ⊎_elim
-    (λ yes.
-    ap (λ s. shown_image s bytes) (cond-true (is_image bytes) (shape_in bytes) no_shape yes)
-    ∙ (cond-true (image_sizes_fit (shape_in bytes) bytes) _ no_banks (image_parts bytes yes).1 ∙ sym (cond-true (is_image bytes) _ no_banks yes)))
-    (λ no. ap (λ s. shown_image s bytes) (cond-false (is_image bytes) (shape_in bytes) no_shape no) ∙ sym (cond-false (is_image bytes) (stored (shape_in bytes) bytes) no_banks no))
+    (λ yes. cond-true (is_image bytes) _ no_banks yes ∙ ap (λ v. stored v bytes) (sym (named_by_image s bytes named yes).shape))
+    (λ no.
+    cond-false (is_image bytes) _ no_banks no
+    ∙ (sym (empty_stored bytes) ∙ ap (λ v. stored v bytes) (sym (named ∙ cond-false (is_image bytes) (shape_in bytes) no_shape no))))
     (cases_Bool (is_image bytes))
 
 -- the image shows the block k of the bank b, whose record starts at `start`; as many bytes, the same but for those of the block after its mark
@@ -58,34 +61,20 @@ module _ {s : Shape} {bytes : List ℕ} {b k start : ℕ} (found : FoundAt s byt
       ∙ was)
       (cases_eq j (b * s.blocks + k))
 
-  module _ (same : opened bytes ≡ shown_image s bytes) where
-    shown_is : shown_image s bytes ≡ stored s bytes
-    shown_is = cond-true (image_sizes_fit s bytes) _ no_banks found.sizes
+  pub named_changed : s ≡ named_shape bytes → s ≡ named_shape now
+  named_changed named =
+      let was = named_by_banks s bytes named (omega (arith, found.bank)) in
+      let parts = image_parts bytes was.image in
+      let shape : shape_in now ≡ s = shape_same ∙ sym was.shape in
+      let blocks = ap (λ v. blocks_fit v bytes (block_count v)) was.shape ∙ parts.2 in
+      let still =
+      and_from (header_mark now) _ (header_same ∙ parts.0)
+      (and_from (image_sizes_fit (shape_in now) now) _
+      (ap (λ v. image_sizes_fit v now) shape ∙ still_fits found now long apart)
+      (ap (λ v. blocks_fit v now (block_count v)) shape
+      ∙ (blocks_each s now (block_count s)).1 (λ j h. block_still j ((blocks_each s bytes (block_count s)).0 blocks j h)))) in
+      sym (cond-true (is_image now) (shape_in now) no_shape still ∙ shape)
 
-    was_image : is_image bytes ≡ true
-    was_image =
-        ⊎_elim (λ yes. yes)
-        (λ no.
-        let none : 0 ≡ s.banks = ap (λ m. m.banks) (sym (cond-false (is_image bytes) _ no_banks no) ∙ (same ∙ shown_is)) in
-        absurd (omega (arith, found.bank)))
-        (cases_Bool (is_image bytes))
-
-    shape_is : shape_in now ≡ s
-    shape_is =
-        let e = sym (cond-true (is_image bytes) (stored (shape_in bytes) bytes) no_banks was_image) ∙ (same ∙ shown_is) in
-        shape_same ∙ (λ t. record { banks = (e t).banks; blocks = (e t).blocks; pages = (e t).depth })
-
-    still_image : is_image now ≡ true
-    still_image =
-        let parts = image_parts bytes was_image in
-        let was = ap (λ v. blocks_fit v bytes (block_count v)) (sym shape_is ∙ shape_same) ∙ parts.2 in
-        and_from (header_mark now) _ (header_same ∙ parts.0)
-        (and_from (image_sizes_fit (shape_in now) now) _
-        (ap (λ v. image_sizes_fit v now) shape_is ∙ still_fits found now long apart)
-        (ap (λ v. blocks_fit v now (block_count v)) shape_is
-        ∙ (blocks_each s now (block_count s)).1 (λ j h. block_still j ((blocks_each s bytes (block_count s)).0 was j h))))
-
-    pub reopens_changed : opened now ≡ shown_image s now
-    reopens_changed =
-        cond-true (is_image now) _ no_banks still_image
-        ∙ (ap (λ v. stored v now) shape_is ∙ sym (cond-true (image_sizes_fit s now) _ no_banks (still_fits found now long apart)))
+-- opening the bytes of an image again shows what it shows
+pub image_reopens : (image : CardImage) → Reopens image
+image_reopens image = reopens image.shape (bytes_of image) image.named

@@ -7,7 +7,7 @@ use Rattle.flash.specs.Tables.{unless_refused}
 use Rattle.flash.specs.declared.Shape.{Shape}
 use Rattle.chips.specs.Numbered.{numbered}
 use Rattle.chips.specs.Layout.{block_count, shape_fits}
-use Rattle.chips.specs.declared.image.CardImage.{CardImage}
+use Rattle.chips.specs.Shapes.{no_shape}
 
 -- ---- where things lie
 -- how many bytes the record of a block has: its mark, its lives, and the records of its pages
@@ -99,23 +99,13 @@ image_sizes_fit s bytes = shape_fits s && length bytes == image_length s
 abbrev pub is_image : List ℕ → Bool
 is_image bytes = header_mark bytes && (image_sizes_fit (shape_in bytes) bytes && blocks_fit (shape_in bytes) bytes (block_count (shape_in bytes)))
 
+-- the shape that the header names where the bytes are an image, and otherwise no banks
+abbrev pub named_shape : List ℕ → Shape
+named_shape bytes = cond (is_image bytes) (shape_in bytes) no_shape
+
 -- the flash that opening these bytes shows
 abbrev pub opened : List ℕ → Memory
 opened bytes = cond (is_image bytes) (stored (shape_in bytes) bytes) no_banks
-
--- ---- the flash that any image shows: the marks of the header and of the blocks were looked at when it was opened, and no call changes them
-abbrev pub shown_image : Shape → List ℕ → Memory
-shown_image s bytes = cond (image_sizes_fit s bytes) (stored s bytes) no_banks
-
-abbrev pub bytes_of : CardImage → List ℕ
-bytes_of image = image.bytes.now
-
-abbrev pub memory_of_image : CardImage → Memory
-memory_of_image image = shown_image image.shape (bytes_of image)
-
--- opening the image's bytes again shows what it shows now
-abbrev pub Reopens : CardImage → Type 0
-Reopens image = opened (bytes_of image) ≡ memory_of_image image
 
 -- ---- what the calls make of the bytes
 -- the bytes with `new` from the place n on
@@ -133,14 +123,14 @@ with_blank_pages bytes start depth lives = put (start + 2) ((lives % 256) ∷ (l
 -- the bytes after a program, and after an erase, of the block k of the bank b
 abbrev pub programmed_bytes : Shape → List ℕ → ℕ → ℕ → ℕ → List ℕ → List ℕ
 programmed_bytes s bytes b k p page =
-    unless_refused (program_number (spot (shown_image s bytes) b k) p page)
+    unless_refused (program_number (spot (stored s bytes) b k) p page)
     (with_page bytes (page_start (block_start s (b * s.blocks + k)) p) page)
     bytes
 
 abbrev pub erased_bytes : Shape → List ℕ → ℕ → ℕ → List ℕ
 erased_bytes s bytes b k =
     let start = block_start s (b * s.blocks + k) in
-    unless_refused (erase_number (spot (shown_image s bytes) b k)) (with_blank_pages bytes start s.pages (lives_in bytes start - 1)) bytes
+    unless_refused (erase_number (spot (stored s bytes) b k)) (with_blank_pages bytes start s.pages (lives_in bytes start - 1)) bytes
 
 -- ---- what the private functions tell
 -- the image shows the block k of the bank b, and its record starts at `start`; `within` follows from

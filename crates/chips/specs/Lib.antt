@@ -4,5 +4,6 @@ pub mod Checks
 pub mod Numbered
 pub mod Bounded
 pub mod ImageLayout
+pub mod ImageMemory
 pub mod ImageBounded
 pub mod ImageBlank

@@ -1,6 +1,6 @@
-use Rattle.std.proofs.Common.{◌≡◌, ◌+◌, ◌*◌, true, arith, rules}
-use Rattle.chips.specs.ImageBounded.{block_within, image_sizes_of}
-use Rattle.chips.specs.ImageLayout.{bytes_of, image_sizes_fit}
+use Rattle.std.proofs.Common.{◌+◌, ◌*◌, ◌<◌, arith, rules}
+use Rattle.chips.specs.ImageBounded.{block_within, image_sizes_of, named_by_banks}
+use Rattle.chips.specs.ImageMemory.{bytes_of}
 use Rattle.chips.specs.Bounded.{number_below}
 use Rattle.chips.specs.Shapes.{few_in_all}
 use Rattle.chips.proofs.image.CardImage.start_of.Goals as goal
@@ -8,18 +8,22 @@ use Rattle.chips.proofs.image.CardImage.start_of.Goals as goal
 pub block_start-requires : goal.block_start-requires
 block_start-requires c =
     let s = c.args.self.now.shape in
-    let ranges = (image_sizes_of s (bytes_of c.args.self.now) (search rules)).ranges in
-    (ranges.few_pages, omega (arith, few_in_all s ranges, number_below c.args.bank c.args.block s.banks s.blocks (search rules) (search rules)))
+    let bank : c.args.at.bank < s.banks = search rules in
+    let block : c.args.at.block < s.blocks = search rules in
+    let ranges = (image_sizes_of s _ (named_by_banks s (bytes_of c.args.self.now) c.args.self.now.named (omega arith)).sizes).ranges in
+    (ranges.few_pages, omega (arith, few_in_all s ranges, number_below c.args.at.bank c.args.at.block s.banks s.blocks bank block))
 
-pub returns-then-block-self : goal.returns-then-block-self
-returns-then-block-self c =
+pub returns : goal.returns
+returns c =
     let s = c.args.self.now.shape in
     let bytes = bytes_of c.args.self.now in
-    let e : image_sizes_fit s bytes ≡ true = search rules in
+    let bank : c.args.at.bank < s.banks = search rules in
+    let block : c.args.at.block < s.blocks = search rules in
+    let sizes = (named_by_banks s bytes c.args.self.now.named (omega arith)).sizes in
     record {
-      sizes = e;
-      bank = search rules;
-      block = search rules;
+      sizes = sizes;
+      bank = bank;
+      block = block;
       starts = c.block_start.ensures;
-      within = omega (arith, block_within s bytes (c.args.bank * s.blocks + c.args.block) e (search (rules, number_below)));
+      within = omega (arith, block_within s bytes (c.args.at.bank * s.blocks + c.args.at.block) sizes (number_below c.args.at.bank c.args.at.block s.banks s.blocks bank block));
     }

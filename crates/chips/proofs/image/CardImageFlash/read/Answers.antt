@@ -1,23 +1,28 @@
-use Rattle.std.proofs.Common.{◌≡◌, ◌+◌, ◌-◌, ◌*◌, take, drop, sym, ◌∙◌, arith}
-use Rattle.flash.proofs.Calls.{not_refused, refused}
-use Rattle.chips.proofs.ImageCalls.{found_blank, found_quarter, found_reads}
+use Rattle.std.proofs.Common.{◌≡◌, ◌+◌, ◌-◌, ◌*◌, take, drop, refl, sym, ap, ◌∙◌, arith, rules}
+use Rattle.flash.specs.Numbers.{answer}
+use Rattle.flash.proofs.Calls.{not_refused}
+use Rattle.chips.proofs.Checked.{err_refused}
+use Rattle.chips.proofs.ImageCalls.{found_quarter, found_shows}
 use Rattle.chips.proofs.image.CardImageFlash.read.Goals as goal
 
-pub returns-then-page-standing_from : goal.returns-then-page-standing_from
-returns-then-page-standing_from c =
-    let blank = found_blank c.in-Some.ensures c.args.page c.args.quarter c.args.buffer.now (omega arith) (omega arith) (omega arith) (omega arith) in
-    record { answer = sym blank; buffer = sym (refused _ 4 _ _ blank (omega arith)) }
+pub returns-in_err-check_read : goal.returns-in_err-check_read
+returns-in_err-check_read c =
+    let found = rw c.in_ok-start.ensures.ok_part at c.start_of.ensures in
+    let same : c.from_residual-in_err-check_read.result ≡ c.check_read.result = grind arith in
+    let told = ap answer same ∙ c.check_read.ensures.answer _ c.args.buffer.now (found_shows found _ c.standing_from-standing.ensures) refl in
+    record { answer = told; buffer = err_refused c.from_residual-in_err-check_read.result _ _ _ (search rules) told }
 
 pub returns : goal.returns
 returns c =
+    let found = rw c.in_ok-start.ensures.ok_part at c.start_of.ensures in
     let bytes = c.args.self.now.bytes.now in
-    let found = c.in-Some.ensures in
     let n = c.page_start.result + 2 + c.args.quarter * 512 in
     let e : n + 512 - n ≡ 512 = omega arith in
-    let done = found_reads found c.args.page c.args.quarter c.args.buffer.now (omega arith) (omega arith) (omega arith) (omega arith) in
+    let passed = c.in_ok-check_read.ensures.passed in
+    let done = c.in_ok-check_read.ensures.answer _ c.args.buffer.now (found_shows found _ c.standing_from-standing.ensures) refl in
     record {
-      answer = sym done;
+      answer = done;
       buffer = c.copy_from_slice.ensures.after
           ∙ ((λ t. take (e t) (drop (c.page_start.ensures t + 2 + c.args.quarter * 512) bytes))
-          ∙ (sym (found_quarter found c.args.page c.args.quarter c.args.buffer.now (omega arith) (omega arith) (omega arith) (omega arith)) ∙ sym (not_refused _ _ _ done)));
+          ∙ (sym (found_quarter found c.args.page c.args.quarter (omega arith) (omega arith)) ∙ sym (not_refused _ _ _ (sym done))));
     }
