@@ -1,7 +1,6 @@
 mod Blocks
 mod Calls
 mod Checked
-mod Counts
 mod ImageBlocks
 mod ImageCalls
 mod ImageMarks

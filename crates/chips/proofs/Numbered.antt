@@ -6,9 +6,8 @@ use Rattle.flash.specs.Memory.{Block, no_block}
 use Rattle.flash.specs.Calls.{spot, with_block}
 use Rattle.flash.specs.declared.Shape.{Shape}
 use Rattle.flash.proofs.Calls.{same_memory, same_spot}
-use Rattle.chips.specs.Bounded.{number_below}
-use Rattle.chips.specs.Numbered.{numbered}
-use Rattle.chips.specs.Layout.{block_count}
+use Rattle.chips.specs.Numbered.{number_below, numbered}
+use Rattle.chips.specs.Shapes.{block_count}
 use Rattle.chips.proofs.Pages.{same_column, same_row}
 
 -- two flashes of one shape that are the same but for the block k of the bank b, at the block y of the bank x

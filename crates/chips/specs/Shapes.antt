@@ -1,14 +1,25 @@
--- What the test of a chip's shape tells, and the shape without banks.
-use Rattle.std.specs.Prelude.{◌≡◌, ℕ, ◌<◌, ◌≤◌, true, ◌&&◌, nat_le, nat_lt}
+-- The shapes that a chip can have.
+use Rattle.std.specs.Prelude.{◌≡◌, ℕ, ◌*◌, ◌<◌, ◌≤◌, Bool, true, ◌&&◌, nat_le, nat_lt}
 use Rattle.std.proofs.Common.{arith}
 use Rattle.std.proofs.lemmas.Nat.{mul-le}
 use Rattle.std.proofs.lemmas.Bool.{and_parts, leb-true, ltb-true}
 use Rattle.flash.specs.declared.Shape.{Shape}
-use Rattle.chips.specs.Layout.{block_count, in_range, shape_fits}
 
 -- the shape of a flash with no banks
 abbrev pub no_shape : Shape
 no_shape = record { banks = 0; blocks = 0; pages = 0 }
+
+-- how many blocks there are in all banks
+abbrev pub block_count : Shape → ℕ
+block_count s = s.banks * s.blocks
+
+-- n is from 1 to `most`
+abbrev pub in_range : ℕ → ℕ → Bool
+in_range n most = nat_lt 0 n && nat_le n most
+
+-- the shape is one that a flash with banks can have
+abbrev pub shape_fits : Shape → Bool
+shape_fits s = in_range s.banks 16 && (in_range s.blocks 64 && in_range s.pages 64)
 
 -- ---- what the test of a shape tells
 pub record Ranges (s : Shape) : Type 0 where
@@ -33,3 +44,20 @@ ranges_of s e =
 
 pub few_in_all : (s : Shape) → Ranges s → block_count s ≤ 1024
 few_in_all s ranges = omega (arith, mul-le s.banks s.blocks 16 64 ranges.few_banks ranges.few_blocks)
+
+-- ---- the shape of any flash: in the ranges, or without banks
+pub record FlashShape (s : Shape) : Type 0 where
+  pub few_banks : s.banks ≤ 16
+  pub few_blocks : s.blocks ≤ 64
+  pub few_pages : s.pages ≤ 64
+  pub some : 0 < s.banks → (0 < s.blocks) × (0 < s.pages)
+  pub none : s.banks ≡ 0 → (s.blocks ≡ 0) × (s.pages ≡ 0)
+
+pub ranged_shape : {s : Shape} → Ranges s → FlashShape s
+ranged_shape ranges = record {
+  few_banks = ranges.few_banks;
+  few_blocks = ranges.few_blocks;
+  few_pages = ranges.few_pages;
+  some = λ _. (ranges.some_blocks, ranges.some_pages);
+  none = λ z. absurd (omega (arith, ranges.some_banks));
+}

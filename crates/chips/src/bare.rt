@@ -1,11 +1,11 @@
 // A bare chip: a flash over bytes and block records that its owner lends.
-// Both lie bank by bank and block by block, and the bytes of a block page by page.
-ghost use Rattle.std.specs.Prelude.{◌≡◌, true, false, length, is_ok, MatchOption};
+// Both lie bank by bank and block by block, and the bytes of a block page by page. They are two slices, since that is the form
+// in which the owner has them.
+ghost use Rattle.std.specs.Prelude.{◌≡◌, ℕ, ◌*◌, ◌<◌, ◌≤◌, false, length, is_ok, MatchOption};
 ghost use Rattle.flash.specs.Calls.{erase_number, erased, program_number, programmed, spot};
-ghost use Rattle.flash.specs.Memory.{inside};
+ghost use Rattle.flash.specs.Memory.{in_shape};
 ghost use Rattle.flash.specs.Numbers.{answer};
-ghost use Rattle.chips.specs.Bounded.{bounds_of};
-ghost use Rattle.chips.specs.Layout.{Found, Valid, counts_fit, made_of, memory_of, new_memory, parts_of, sizes_fit};
+ghost use Rattle.chips.specs.Layout.{Found, block_count, counts_fit, made_of, new_memory, record_at, sizes_fit};
 
 use crate::checks::{check_program, check_read};
 use crate::record::BlockRecord;
@@ -17,33 +17,37 @@ pub struct BareChip<'a> {
     shape: Shape,
     bytes: &'a mut [u8],
     records: &'a mut [BlockRecord],
+    // the shape is that of a flash
+    ghost few_banks: { shape.banks ≤ 16 },
+    ghost few_blocks: { shape.blocks ≤ 64 },
+    ghost few_pages: { shape.pages ≤ 64 },
+    ghost some: { 0 < shape.banks → (0 < shape.blocks) × (0 < shape.pages) },
+    ghost none: { shape.banks ≡ 0 → (shape.blocks ≡ 0) × (shape.pages ≡ 0) },
+    // every block of the shape has its bytes and its record, which counts no more standing pages than a block has
+    ghost all_bytes: { block_count shape * shape.pages * 2048 ≤ length bytes.now },
+    ghost all_records: { block_count shape ≤ length records.now },
+    ghost counts: { (i : ℕ) → i < block_count shape → (record_at records.now i).standing ≤ shape.pages },
 }
 
 // Whether a flash can have the shape, and there are just as many bytes and records as it needs.
 fn sizes_fit(shape: Shape, bytes: &[u8], records: &[BlockRecord]) -> bool
     ensures { result ≡ sizes_fit (made_of shape bytes.now records.now) }
 {
-    if !shape_fits(shape) {
-        return false;
-    }
-    let blocks = shape.banks * shape.blocks;
-    records.len() == blocks && bytes.len() == blocks * shape.pages * PAGE
+    shape_fits(shape)
+        && records.len() == shape.banks * shape.blocks
+        && bytes.len() == shape.banks * shape.blocks * shape.pages * PAGE
 }
 
 // Whether no record counts more standing pages than the pages of a block.
 fn counts_fit(pages: usize, records: &[BlockRecord]) -> bool
-    ensures answer { result ≡ counts_fit pages records.now }
-    ensures valid { result ≡ true → Valid (length records.now) pages records.now }
+    ensures { result ≡ counts_fit pages records.now }
 {
-    for one in records {
-        if !one.fits_block(pages) {
-            return false;
-        }
-    }
-    true
+    records.iter().all(|one| usize::from(one.standing) <= pages)
 }
 
 impl<'a> BareChip<'a> {
+    ghost use Rattle.chips.specs.Bounded.{memory_of, parts_of};
+
     // A chip over these bytes and records as they are. It shows no banks where they do not fit the shape,
     // or where a record counts more standing pages than a block has.
     pub fn new(shape: Shape, bytes: &'a mut [u8], records: &'a mut [BlockRecord]) -> Self
@@ -63,52 +67,34 @@ impl<'a> BareChip<'a> {
         }
     }
 
-    // Whether the chip shows any banks. Each call asks again, in a few tests that look at no record: the contracts
-    // speak of every value of the type, and nothing else tells that this one came from `new`.
-    fn shows_banks(&self) -> bool
-        ensures { result ≡ sizes_fit (parts_of self.now) }
-    {
-        sizes_fit(self.shape, self.bytes, self.records)
-    }
-
     // The number of a block, counted from 0 over the whole chip, or none where the chip does not show the block.
     fn number_of(&self, at: BlockAddress) -> Option<usize>
-        ensures { MatchOption result (inside (memory_of self.now) at.bank at.block ≡ false) (Found (parts_of self.now) at.bank at.block) }
+        ensures { MatchOption result (in_shape self.now.shape at.bank at.block ≡ false) (Found (parts_of self.now) at.bank at.block) }
     {
-        if self.shows_banks() && at.bank < self.shape.banks && at.block < self.shape.blocks {
-            Some(at.bank * self.shape.blocks + at.block)
-        } else {
-            None
-        }
+        let blocks = self.shape.blocks;
+        self.shape.contains(at).then(|| at.bank * blocks + at.block)
     }
 }
 
 impl<'a> Flash for BareChip<'a> {
+    ghost use Rattle.chips.specs.Bounded.{bounds_of, memory_of, parts_of};
+
     ghost memory = { memory_of };
 
     ghost bounds = { bounds_of };
 
     fn shape(&self) -> Shape {
-        if self.shows_banks() {
-            self.shape
-        } else {
-            NO_BANKS
-        }
+        self.shape
     }
 
-    // `new` lets no record through that counts more pages than a block has: on what it made, `min` changes nothing.
     fn standing(&self, at: BlockAddress) -> Option<usize> {
-        match self.number_of(at) {
-            Some(i) => Some(self.records[i].standing_pages().min(self.shape.pages)),
-            None => None,
-        }
+        let i = self.number_of(at)?;
+        Some(usize::from(self.records[i].standing))
     }
 
     fn lives(&self, at: BlockAddress) -> Option<u16> {
-        match self.number_of(at) {
-            Some(i) => Some(self.records[i].lives_left()),
-            None => None,
-        }
+        let i = self.number_of(at)?;
+        Some(self.records[i].lives)
     }
 
     fn read(
@@ -118,10 +104,8 @@ impl<'a> Flash for BareChip<'a> {
         quarter: usize,
         buffer: &mut [u8],
     ) -> Result<(), Refusal> {
-        let Some(i) = self.number_of(at) else {
-            return Err(Refusal::Outside);
-        };
-        let standing = self.records[i].standing_pages().min(self.shape.pages);
+        let i = self.number_of(at).ok_or(Refusal::Outside)?;
+        let standing = usize::from(self.records[i].standing);
         check_read(self.shape.pages, standing, page, quarter, buffer.len())?;
         let start = (i * self.shape.pages + page) * PAGE + quarter * QUARTER;
         buffer.copy_from_slice(&self.bytes[start..start + QUARTER]);
@@ -134,12 +118,9 @@ impl<'a> Flash for BareChip<'a> {
         ensures after { memory_of self.new ≡ programmed (memory_of self.old) at.bank at.block page bytes.now }
         ensures refused { is_ok result ≡ false → parts_of self.new ≡ parts_of self.old }
     {
-        let Some(i) = self.number_of(at) else {
-            return Err(Refusal::Outside);
-        };
+        let i = self.number_of(at).ok_or(Refusal::Outside)?;
         let BlockRecord { standing, lives } = self.records[i];
-        let count = usize::from(standing).min(self.shape.pages);
-        check_program(self.shape.pages, count, page, bytes.len())?;
+        check_program(self.shape.pages, usize::from(standing), page, bytes.len())?;
         let start = (i * self.shape.pages + page) * PAGE;
         self.bytes[start..start + PAGE].copy_from_slice(bytes);
         self.records[i] = BlockRecord {
@@ -156,10 +137,8 @@ impl<'a> Flash for BareChip<'a> {
         ensures bytes { (parts_of self.new).bytes ≡ (parts_of self.old).bytes }
         ensures refused { is_ok result ≡ false → parts_of self.new ≡ parts_of self.old }
     {
-        let Some(i) = self.number_of(at) else {
-            return Err(Refusal::Outside);
-        };
-        let lives = self.records[i].lives_left();
+        let i = self.number_of(at).ok_or(Refusal::Outside)?;
+        let lives = self.records[i].lives;
         if lives == 0 {
             return Err(Refusal::Worn);
         }

@@ -1,22 +1,19 @@
-use Rattle.std.proofs.Common.{◌≡◌, true, sym, refl, rules}
-use Rattle.chips.specs.Bounded.{number_below, ranges_within, sizes_of}
-use Rattle.chips.specs.Layout.{parts_of, sizes_fit}
-use Rattle.chips.specs.Shapes.{few_in_all}
+use Rattle.std.proofs.Common.{◌≡◌, ℕ, Bool, true, false, Option, Some, None, sym, rules}
+use Rattle.std.specs.Option.{MatchOption, is_some}
+use Rattle.std.specs.Prelude.{IfSome}
+use Rattle.std.proofs.lemmas.Option.{IfSome_then}
+use Rattle.flash.specs.Memory.{in_shape}
+use Rattle.chips.proofs.Blocks.{found_at}
 use Rattle.chips.proofs.bare.BareChip.number_of.Goals as goal
 
-pub returns-then-at-self-2 : goal.returns-then-at-self-2
-returns-then-at-self-2 c =
-    let s = c.args.self.now.shape in
-    let e : sizes_fit (parts_of c.args.self.now) ≡ true = search rules in
-    let f = sizes_of (parts_of c.args.self.now) e in
-    record {
-      sizes = e;
-      bank = search rules;
-      block = search rules;
-      number = refl;
-      counted = search (rules, number_below);
-      few = few_in_all s (ranges_within (parts_of c.args.self.now) f);
-      depth = f.few_pages;
-      records = sym f.records;
-      bytes = sym f.bytes;
-    }
+-- a number that is there just where a test holds
+numbered_when : (o : Option ℕ) (t : Bool) (n : ℕ) (P : ℕ → Type 0) → is_some o ≡ t → IfSome o (λ i. i ≡ n) → (t ≡ true → P n) → MatchOption o (t ≡ false) P
+numbered_when None t n P e some found = sym e
+numbered_when (Some i) t n P e some found = rw some (found (sym e))
+
+pub returns : goal.returns
+returns c =
+    let chip = c.args.self.now in
+    let at = c.args.at in
+    let here : is_some c.then.result ≡ in_shape chip.shape at.bank at.block = search rules in
+    numbered_when c.then.result _ _ _ here (IfSome_then c.then.result c.then.ensures.some (λ i h. search rules)) (found_at chip at.bank at.block)

@@ -1,10 +1,8 @@
-use Rattle.std.proofs.Common.{Some, sym, ap, ◌∙◌, arith}
-use Rattle.flash.specs.Calls.{standing_at}
-use Rattle.chips.proofs.Blocks.{found_spot}
-use Rattle.chips.proofs.Calls.{found_count}
+use Rattle.std.proofs.Common.{cond, Some, None, sym, ap, ◌∙◌}
+use Rattle.chips.proofs.Blocks.{found_shows}
 use Rattle.chips.proofs.bare.BareChipFlash.standing.Goals as goal
 
-pub returns-in-Some : goal.returns-in-Some
-returns-in-Some c =
-    let found = c.in-Some.ensures in
-    ap Some (omega (arith, found_count found)) ∙ sym (ap standing_at (found_spot found))
+pub returns : goal.returns
+returns c =
+    let shows = found_shows c.in_ok-i.ensures c.index-self-i.result in
+    ap Some c.from.ensures ∙ sym (λ t. cond (shows.here t) (Some (shows.stands t)) None)
