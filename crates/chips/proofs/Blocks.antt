@@ -9,11 +9,12 @@ use Rattle.std.proofs.lemmas.Nat.{mul-le}
 use Rattle.std.proofs.lemmas.List.FromFn.{length-map-range_with_len}
 use Rattle.flash.specs.Memory.{in_shape}
 use Rattle.flash.specs.Calls.{Spot, spot, with_block}
-use Rattle.chips.specs.Bounded.{parts_of}
+use Rattle.flash.specs.declared.Shape.{Shape}
+use Rattle.chips.specs.Bounded.{sizes_of}
 use Rattle.chips.specs.Checks.{Shows}
-use Rattle.chips.specs.Layout.{Found, Parts, block_at, block_count, block_of, counts_fit, laid_out, made_of, no_record, page_at, pages_at, record_at}
+use Rattle.chips.specs.Layout.{Found, Parts, Whole, block_at, block_count, block_of, counts_fit, laid_out, made_of, no_record, page_at, pages_at, record_at, sizes_fit}
 use Rattle.chips.specs.Numbered.{number_below}
-use Rattle.chips.specs.declared.bare.BareChip.{BareChip}
+use Rattle.chips.specs.Shapes.{FlashShape, ranged_shape}
 use Rattle.chips.specs.declared.record.BlockRecord.{BlockRecord}
 use Rattle.chips.proofs.Numbered.{numbered_changed, numbered_spot}
 
@@ -21,10 +22,20 @@ use Rattle.chips.proofs.Numbered.{numbered_changed, numbered_spot}
 pub counts_each : (depth : ℕ) (records : List BlockRecord) → counts_fit depth records ≡ true → (i : ℕ) → i < length records → (record_at records i).standing ≤ depth
 counts_each depth records e i h = grind (arith, nat_tests, list_all_at)
 
+-- parts that fit are those of a chip
+pub whole_of : (c : Parts) → sizes_fit c ≡ true → counts_fit c.shape.pages c.records ≡ true → Whole c
+whole_of c e n =
+    let sizes = sizes_of c e in
+    record {
+      shape = ranged_shape sizes.ranges;
+      bytes = omega (arith, sizes.bytes);
+      records = omega (arith, sizes.records);
+      counts = λ i h. counts_each c.shape.pages c.records n i (omega (arith, sizes.records));
+    }
+
 -- a block that the shape contains
-pub found_at : (chip : BareChip) (b k : ℕ) → in_shape chip.shape b k ≡ true → Found (parts_of chip) b k (b * chip.shape.blocks + k)
-found_at chip b k e =
-    let s = chip.shape in
+pub found_at : (s : Shape) (b k : ℕ) → FlashShape s → in_shape s b k ≡ true → Found s b k (b * s.blocks + k)
+found_at s b k shape e =
     let p = and_parts (nat_lt b s.banks) (nat_lt k s.blocks) e in
     let bank = ltb-true b s.banks p.0 in
     let block = ltb-true k s.blocks p.1 in
@@ -33,14 +44,10 @@ found_at chip b k e =
       block = block;
       number = refl;
       counted = number_below b k s.banks s.blocks bank block;
-      few = omega (arith, mul-le s.banks s.blocks 16 64 chip.few_banks chip.few_blocks);
-      depth = chip.few_pages;
-      records = chip.all_records;
-      bytes = chip.all_bytes;
-      counts = chip.counts;
+      few = omega (arith, mul-le s.banks s.blocks 16 64 shape.few_banks shape.few_blocks);
     }
 
-module _ {c : Parts} {b k i : ℕ} (found : Found c b k i) where
+module _ {c : Parts} {b k i : ℕ} (whole : Whole c) (found : Found c.shape b k i) where
   -- the block, as the chip shows it
   abbrev pub seen : Spot
   seen = record { here = true; depth = c.shape.pages; block = block_at c i }
@@ -76,7 +83,7 @@ module _ {c : Parts} {b k i : ℕ} (found : Found c b k i) where
     at_other j h other =
         ap (block_of changed j) (get_or-set_other c.records i j r no_record other)
         ∙ ap (λ ps. record { pages = ps; lives = (record_at c.records j).lives })
-        (apart j (record_at c.records j).standing (found.counts j h) other)
+        (apart j (record_at c.records j).standing (whole.counts j h) other)
 
     pub laid_out_changed : laid_out changed ≡ with_block (laid_out c) b k (block_of changed i r)
     laid_out_changed =

@@ -7,7 +7,7 @@ use Rattle.std.proofs.lemmas.List.FromFn.{length-map-range_with_len, get_or-map-
 use Rattle.std.proofs.lemmas.Nat.{mul-add-lt}
 use Rattle.std.proofs.lemmas.Bool.{and_parts, eqb-true}
 use Rattle.flash.specs.Memory.{Bounds, Memory, SoundBlock}
-use Rattle.chips.specs.Layout.{Parts, block_at, block_count, bytes_fit, laid_out, made_of, page_at, record_at, records_fit, shape_fits, sizes_fit}
+use Rattle.chips.specs.Layout.{Parts, Whole, block_at, block_count, bytes_fit, laid_out, made_of, page_at, record_at, records_fit, shape_fits, sizes_fit}
 use Rattle.chips.specs.Numbered.{shaped_bounds}
 use Rattle.chips.specs.Shapes.{Ranges, ranges_of}
 use Rattle.chips.specs.declared.bare.BareChip.{BareChip}
@@ -41,24 +41,24 @@ page_fits i p count depth room h l r = omega (arith, mul-add-lt i depth p count 
 page_long : (bytes : List ℕ) (j : ℕ) → j * 2048 + 2048 ≤ length bytes → length (page_at bytes j) ≡ 2048
 page_long bytes j h = simp (length-take, length-drop) (omega arith)
 
-block_sound : (chip : BareChip) (i : ℕ) → i < block_count chip.shape → SoundBlock chip.shape.pages (block_at (parts_of chip) i)
-block_sound chip i h =
-    let c = parts_of chip in
-    let r = record_at c.records i in
-    let f : ℕ → List ℕ = λ p. page_at c.bytes (i * c.shape.pages + p) in
-    let e = length-map-range_with_len f 0 r.standing in
-    let most = chip.counts i h in
-    record {
-      standing = omega (arith, e, most);
-      long = λ p l. let u : p < r.standing = omega (arith, e) in
-          ap length (get_or-map-range_with_len f 0 r.standing p p [] u (omega arith))
-          ∙ page_long c.bytes (i * c.shape.pages + p)
-          (page_fits i p (block_count c.shape) c.shape.pages (length c.bytes) h (omega (arith, most)) chip.all_bytes);
-      lives = r.lives_fit;
-    }
+module _ (c : Parts) (whole : Whole c) where
+  block_sound : (i : ℕ) → i < block_count c.shape → SoundBlock c.shape.pages (block_at c i)
+  block_sound i h =
+      let r = record_at c.records i in
+      let f : ℕ → List ℕ = λ p. page_at c.bytes (i * c.shape.pages + p) in
+      let e = length-map-range_with_len f 0 r.standing in
+      let most = whole.counts i h in
+      record {
+        standing = omega (arith, e, most);
+        long = λ p l. let u : p < r.standing = omega (arith, e) in
+            ap length (get_or-map-range_with_len f 0 r.standing p p [] u (omega arith))
+            ∙ page_long c.bytes (i * c.shape.pages + p)
+            (page_fits i p (block_count c.shape) c.shape.pages (length c.bytes) h (omega (arith, most)) whole.bytes);
+        lives = r.lives_fit;
+      }
+
+  laid_out_bounds : Bounds (laid_out c)
+  laid_out_bounds = shaped_bounds c.shape (block_at c) whole.shape block_sound
 
 pub bounds_of : (chip : BareChip) → Bounds (memory_of chip)
-bounds_of chip =
-    shaped_bounds chip.shape (block_at (parts_of chip))
-    (record { few_banks = chip.few_banks; few_blocks = chip.few_blocks; few_pages = chip.few_pages; some = chip.some; none = chip.none })
-    (block_sound chip)
+bounds_of chip = laid_out_bounds (parts_of chip) chip.whole

@@ -5,6 +5,7 @@ use Rattle.std.proofs.Common.{arith}
 use Rattle.flash.specs.Memory.{Memory, Block, no_banks}
 use Rattle.flash.specs.declared.Shape.{Shape}
 use Rattle.chips.specs.Numbered.{numbered}
+use Rattle.chips.specs.Shapes.{FlashShape}
 use Rattle.chips.specs.declared.record.BlockRecord.{BlockRecord}
 pub use Rattle.chips.specs.Shapes.{block_count, shape_fits}
 
@@ -68,16 +69,20 @@ counts_fit depth records = list_all (λ r. nat_le r.standing depth) records
 abbrev pub new_memory : Parts → Memory
 new_memory c = cond (sizes_fit c && counts_fit c.shape.pages c.records) (laid_out c) no_banks
 
--- ---- what the chip's private functions tell
--- the chip shows the block k of the bank b, and its number over the whole chip is i; the facts from `counted` on follow from
--- those above and from the chip's type, and stand here for the arithmetic of the calls
-pub record Found (c : Parts) (b k i : ℕ) : Type 0 where
-  pub bank : b < c.shape.banks
-  pub block : k < c.shape.blocks
-  pub number : i ≡ b * c.shape.blocks + k
-  pub counted : i < block_count c.shape
-  pub few : block_count c.shape ≤ 1024
-  pub depth : c.shape.pages ≤ 64
-  pub records : block_count c.shape ≤ length c.records
+-- ---- what holds of the parts of every chip
+-- the shape is that of a flash, and each of its blocks has its bytes and its record, which counts no more standing pages than a block has
+pub record Whole (c : Parts) : Type 0 where
+  pub shape : FlashShape c.shape
   pub bytes : block_count c.shape * c.shape.pages * 2048 ≤ length c.bytes
-  pub counts : (j : ℕ) → j < block_count c.shape → (record_at c.records j).standing ≤ c.shape.pages
+  pub records : block_count c.shape ≤ length c.records
+  pub counts : (i : ℕ) → i < block_count c.shape → (record_at c.records i).standing ≤ c.shape.pages
+
+-- ---- what the chip's private functions tell
+-- the chip shows the block k of the bank b, and its number over the whole chip is i; the last two facts follow from those above and from
+-- the chip's type, and stand here for the arithmetic of the calls
+pub record Found (s : Shape) (b k i : ℕ) : Type 0 where
+  pub bank : b < s.banks
+  pub block : k < s.blocks
+  pub number : i ≡ b * s.blocks + k
+  pub counted : i < block_count s
+  pub few : block_count s ≤ 1024

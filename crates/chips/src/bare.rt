@@ -1,11 +1,11 @@
 // A bare chip: a flash over bytes and block records that its owner lends.
 // Both lie bank by bank and block by block, and the bytes of a block page by page. They are two slices, since that is the form
 // in which the owner has them.
-ghost use Rattle.std.specs.Prelude.{◌≡◌, ℕ, ◌*◌, ◌<◌, ◌≤◌, false, length, is_ok, MatchOption};
+ghost use Rattle.std.specs.Prelude.{◌≡◌, false, is_ok, MatchOption};
 ghost use Rattle.flash.specs.Calls.{erase_number, erased, program_number, programmed, spot};
 ghost use Rattle.flash.specs.Memory.{in_shape};
 ghost use Rattle.flash.specs.Numbers.{answer};
-ghost use Rattle.chips.specs.Layout.{Found, block_count, counts_fit, made_of, new_memory, record_at, sizes_fit};
+ghost use Rattle.chips.specs.Layout.{Found, Whole, counts_fit, made_of, new_memory, sizes_fit};
 
 use crate::checks::{check_program, check_read};
 use crate::record::BlockRecord;
@@ -17,16 +17,7 @@ pub struct BareChip<'a> {
     shape: Shape,
     bytes: &'a mut [u8],
     records: &'a mut [BlockRecord],
-    // the shape is that of a flash
-    ghost few_banks: { shape.banks ≤ 16 },
-    ghost few_blocks: { shape.blocks ≤ 64 },
-    ghost few_pages: { shape.pages ≤ 64 },
-    ghost some: { 0 < shape.banks → (0 < shape.blocks) × (0 < shape.pages) },
-    ghost none: { shape.banks ≡ 0 → (shape.blocks ≡ 0) × (shape.pages ≡ 0) },
-    // every block of the shape has its bytes and its record, which counts no more standing pages than a block has
-    ghost all_bytes: { block_count shape * shape.pages * 2048 ≤ length bytes.now },
-    ghost all_records: { block_count shape ≤ length records.now },
-    ghost counts: { (i : ℕ) → i < block_count shape → (record_at records.now i).standing ≤ shape.pages },
+    ghost whole: { Whole (made_of shape bytes.now records.now) },
 }
 
 // Whether a flash can have the shape, and there are just as many bytes and records as it needs.
@@ -46,7 +37,7 @@ fn counts_fit(pages: usize, records: &[BlockRecord]) -> bool
 }
 
 impl<'a> BareChip<'a> {
-    ghost use Rattle.chips.specs.Bounded.{memory_of, parts_of};
+    ghost use Rattle.chips.specs.Bounded.{memory_of};
 
     // A chip over these bytes and records as they are. It shows no banks where they do not fit the shape,
     // or where a record counts more standing pages than a block has.
@@ -69,7 +60,7 @@ impl<'a> BareChip<'a> {
 
     // The number of a block, counted from 0 over the whole chip, or none where the chip does not show the block.
     fn number_of(&self, at: BlockAddress) -> Option<usize>
-        ensures { MatchOption result (in_shape self.now.shape at.bank at.block ≡ false) (Found (parts_of self.now) at.bank at.block) }
+        ensures { MatchOption result (in_shape self.now.shape at.bank at.block ≡ false) (Found self.now.shape at.bank at.block) }
     {
         let blocks = self.shape.blocks;
         self.shape.contains(at).then(|| at.bank * blocks + at.block)

@@ -16,4 +16,4 @@ returns c =
     let chip = c.args.self.now in
     let at = c.args.at in
     let here : is_some c.then.result ≡ in_shape chip.shape at.bank at.block = search rules in
-    numbered_when c.then.result _ _ _ here (IfSome_then c.then.result c.then.ensures.some (λ i h. search rules)) (found_at chip at.bank at.block)
+    numbered_when c.then.result _ _ _ here (IfSome_then c.then.result c.then.ensures.some (λ i h. search rules)) (found_at chip.shape at.bank at.block chip.whole.shape)

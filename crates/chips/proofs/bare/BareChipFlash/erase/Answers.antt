@@ -7,7 +7,8 @@ use Rattle.chips.proofs.bare.BareChipFlash.erase.Goals as goal
 
 pub returns-clause-after : goal.returns-clause-after
 returns-clause-after c =
+    let whole = c.args.self.now.whole in
     let there : c.number_of.result ≡ Some c.in_ok-i.i = grind arith in
     let found = MatchOption-at_some _ _ c.in_ok-i.i there c.number_of.ensures in
-    let lives = ap (λ r. r.lives) (found_record found c.index-self-i.result) in
-    laid_out_erased found _ refl (omega (arith, lives)) ∙ sym (not_refused _ _ _ (found_erases found (omega (arith, lives))))
+    let lives = ap (λ r. r.lives) (found_record whole found c.index-self-i.result) in
+    laid_out_erased whole found _ refl (omega (arith, lives)) ∙ sym (not_refused _ _ _ (found_erases whole found (omega (arith, lives))))

@@ -11,27 +11,29 @@ use Rattle.chips.proofs.bare.BareChipFlash.program.Goals as goal
 
 pub returns-in_err-check_program : goal.returns-in_err-check_program
 returns-in_err-check_program c =
+    let whole = c.args.self.now.whole in
     let there : c.number_of.result ≡ Some c.in_ok-i.i = grind arith in
     let found = MatchOption-at_some _ _ c.in_ok-i.i there c.number_of.ensures in
     let same : c.from_residual-in_err-check_program.result ≡ c.check_program.result = grind arith in
-    let shows = rw (sym c.from.ensures) at (found_shows found c.index-self-i.result) in
+    let shows = rw (sym c.from.ensures) at (found_shows whole found c.index-self-i.result) in
     let told = ap answer same ∙ c.check_program.ensures.answer _ c.args.bytes.now shows refl in
     record { answer = told; after = err_refused c.from_residual-in_err-check_program.result _ _ _ (search rules) told; refused = λ _. refl }
 
 pub returns : goal.returns
 returns c =
     let s = c.args.self.now in
+    let whole = c.args.self.now.whole in
     let there : c.number_of.result ≡ Some c.in_ok-i.i = grind arith in
     let found = MatchOption-at_some _ _ c.in_ok-i.i there c.number_of.ensures in
     let passed = c.in_ok-check_program.ensures.passed in
-    let shows = rw (sym c.from.ensures) at (found_shows found c.index-self-i.result) in
+    let shows = rw (sym c.from.ensures) at (found_shows whole found c.index-self-i.result) in
     let done = c.in_ok-check_program.ensures.answer _ c.args.bytes.now shows refl in
-    let count = ap (λ r. r.standing) (found_record found c.index-self-i.result) in
+    let count = ap (λ r. r.standing) (found_record whole found c.index-self-i.result) in
     record {
       answer = done;
-      after = laid_out_programmed found c.args.page c.args.bytes.now _ _ (omega arith) (omega arith) (omega (arith, count))
+      after = laid_out_programmed whole found c.args.page c.args.bytes.now _ _ (omega arith) (omega arith) (omega (arith, count))
           (copied_page s.bytes.now c.args.bytes.now c.copy_from_slice.new.self (c.in_ok-i.i * s.shape.pages + c.args.page) c.copy_from_slice.ensures.after)
-          (omega arith) (ap (λ r. r.lives) (found_record found c.index-self-i-2.result))
+          (omega arith) (ap (λ r. r.lives) (found_record whole found c.index-self-i-2.result))
           ∙ sym (not_refused _ _ _ (sym done));
       refused = λ e. absurd (false≢true (sym e));
     }

@@ -9,26 +9,28 @@ use Rattle.chips.proofs.bare.BareChipFlash.read.Goals as goal
 
 pub returns-in_err-check_read : goal.returns-in_err-check_read
 returns-in_err-check_read c =
+    let whole = c.args.self.now.whole in
     let there : c.number_of.result ≡ Some c.in_ok-i.i = grind arith in
     let found = MatchOption-at_some _ _ c.in_ok-i.i there c.number_of.ensures in
     let same : c.from_residual-in_err-check_read.result ≡ c.check_read.result = grind arith in
-    let shows = rw (sym c.from-standing.ensures) at (found_shows found c.index-self-i.result) in
+    let shows = rw (sym c.from-standing.ensures) at (found_shows whole found c.index-self-i.result) in
     let told = ap answer same ∙ c.check_read.ensures.answer _ c.args.buffer.now shows refl in
     record { answer = told; buffer = err_refused c.from_residual-in_err-check_read.result _ _ _ (search rules) told }
 
 pub returns : goal.returns
 returns c =
     let s = c.args.self.now in
+    let whole = c.args.self.now.whole in
     let there : c.number_of.result ≡ Some c.in_ok-i.i = grind arith in
     let found = MatchOption-at_some _ _ c.in_ok-i.i there c.number_of.ensures in
     let n = (c.in_ok-i.i * s.shape.pages + c.args.page) * 2048 + c.args.quarter * 512 in
     let e : n + 512 - n ≡ 512 = omega arith in
     let passed = c.in_ok-check_read.ensures.passed in
-    let shows = rw (sym c.from-standing.ensures) at (found_shows found c.index-self-i.result) in
+    let shows = rw (sym c.from-standing.ensures) at (found_shows whole found c.index-self-i.result) in
     let done = c.in_ok-check_read.ensures.answer _ c.args.buffer.now shows refl in
     record {
       answer = done;
       buffer = c.copy_from_slice.ensures.after
           ∙ (ap (λ x. take x (drop n s.bytes.now)) e
-          ∙ (sym (found_quarter found c.args.page c.args.quarter (omega arith) (omega (arith, ap (λ r. r.standing) (found_record found c.index-self-i.result)))) ∙ sym (not_refused _ _ _ (sym done))));
+          ∙ (sym (found_quarter whole found c.args.page c.args.quarter (omega arith) (omega (arith, ap (λ r. r.standing) (found_record whole found c.index-self-i.result)))) ∙ sym (not_refused _ _ _ (sym done))));
     }

@@ -4,5 +4,5 @@ use Rattle.chips.proofs.bare.BareChipFlash.standing.Goals as goal
 
 pub returns : goal.returns
 returns c =
-    let shows = found_shows c.in_ok-i.ensures c.index-self-i.result in
+    let shows = found_shows c.args.self.now.whole c.in_ok-i.ensures c.index-self-i.result in
     ap Some c.from.ensures ∙ sym (λ t. cond (shows.here t) (Some (shows.stands t)) None)
