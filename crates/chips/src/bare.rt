@@ -59,6 +59,7 @@ impl<'a> BareChip<'a> {
     }
 
     // The number of a block, counted from 0 over the whole chip, or none where the chip does not show the block.
+    #[tactic(auto, using(crate::proofs::Blocks::found_at))]
     fn number_of(&self, at: BlockAddress) -> Option<usize>
         ensures { MatchOption result (in_shape self.now.shape at.bank at.block ≡ false) (Found self.now.shape at.bank at.block) }
     {
