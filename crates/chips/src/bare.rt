@@ -1,6 +1,6 @@
 // A bare chip: a flash over bytes and block records that its owner lends.
-// Both lie bank by bank and block by block, and the bytes of a block page by page. They are two slices, since that is the form
-// in which the owner has them.
+// Both lie bank by bank and block by block, and the bytes of a block page by page. They stay two slices, since the owner's memory
+// has that form: the bytes of all pages, and a record for each block.
 ghost use Rattle.std.specs.Prelude.{◌≡◌, false, is_ok, MatchOption};
 ghost use Rattle.flash.specs.Calls.{erase_number, erased, program_number, programmed, spot};
 ghost use Rattle.flash.specs.Memory.{in_shape};
@@ -17,6 +17,7 @@ pub struct BareChip<'a> {
     shape: Shape,
     bytes: &'a mut [u8],
     records: &'a mut [BlockRecord],
+    // the shape is that of a flash, and each of its blocks has its bytes and its record
     ghost whole: { Whole (made_of shape bytes.now records.now) },
 }
 
@@ -63,6 +64,7 @@ impl<'a> BareChip<'a> {
     fn number_of(&self, at: BlockAddress) -> Option<usize>
         ensures { MatchOption result (in_shape self.now.shape at.bank at.block ≡ false) (Found self.now.shape at.bank at.block) }
     {
+        // read before the closure: of one that reads it through `self`, a proof learns nothing
         let blocks = self.shape.blocks;
         self.shape.contains(at).then(|| at.bank * blocks + at.block)
     }

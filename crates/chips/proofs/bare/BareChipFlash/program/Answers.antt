@@ -1,4 +1,4 @@
-use Rattle.std.proofs.Common.{◌≡◌, ◌+◌, ◌*◌, Some, refl, sym, ap, ◌∙◌, arith, rules}
+use Rattle.std.proofs.Common.{◌≡◌, ◌+◌, ◌*◌, refl, sym, ap, ◌∙◌, arith, rules}
 use Rattle.std.proofs.lemmas.Bool.{false≢true}
 use Rattle.std.proofs.lemmas.Option.{MatchOption-at_some}
 use Rattle.flash.specs.Numbers.{answer}
@@ -12,8 +12,7 @@ use Rattle.chips.proofs.bare.BareChipFlash.program.Goals as goal
 pub returns-in_err-check_program : goal.returns-in_err-check_program
 returns-in_err-check_program c =
     let whole = c.args.self.now.whole in
-    let there : c.number_of.result ≡ Some c.in_ok-i.i = grind arith in
-    let found = MatchOption-at_some _ _ c.in_ok-i.i there c.number_of.ensures in
+    let found = MatchOption-at_some _ _ c.in_ok-i.i c.in_ok-i.ensures.ok_part c.number_of.ensures in
     let same : c.from_residual-in_err-check_program.result ≡ c.check_program.result = grind arith in
     let shows = rw (sym c.from.ensures) at (found_shows whole found c.index-self-i.result) in
     let told = ap answer same ∙ c.check_program.ensures.answer _ c.args.bytes.now shows refl in
@@ -23,8 +22,7 @@ pub returns : goal.returns
 returns c =
     let s = c.args.self.now in
     let whole = c.args.self.now.whole in
-    let there : c.number_of.result ≡ Some c.in_ok-i.i = grind arith in
-    let found = MatchOption-at_some _ _ c.in_ok-i.i there c.number_of.ensures in
+    let found = MatchOption-at_some _ _ c.in_ok-i.i c.in_ok-i.ensures.ok_part c.number_of.ensures in
     let passed = c.in_ok-check_program.ensures.passed in
     let shows = rw (sym c.from.ensures) at (found_shows whole found c.index-self-i.result) in
     let done = c.in_ok-check_program.ensures.answer _ c.args.bytes.now shows refl in

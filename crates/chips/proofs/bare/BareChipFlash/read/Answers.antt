@@ -1,4 +1,4 @@
-use Rattle.std.proofs.Common.{◌≡◌, ◌+◌, ◌-◌, ◌*◌, take, drop, Some, refl, sym, ap, ◌∙◌, arith, rules}
+use Rattle.std.proofs.Common.{◌≡◌, ◌+◌, ◌-◌, ◌*◌, take, drop, refl, sym, ap, ◌∙◌, arith, rules}
 use Rattle.std.proofs.lemmas.Option.{MatchOption-at_some}
 use Rattle.flash.specs.Numbers.{answer}
 use Rattle.flash.proofs.Calls.{not_refused}
@@ -10,8 +10,7 @@ use Rattle.chips.proofs.bare.BareChipFlash.read.Goals as goal
 pub returns-in_err-check_read : goal.returns-in_err-check_read
 returns-in_err-check_read c =
     let whole = c.args.self.now.whole in
-    let there : c.number_of.result ≡ Some c.in_ok-i.i = grind arith in
-    let found = MatchOption-at_some _ _ c.in_ok-i.i there c.number_of.ensures in
+    let found = MatchOption-at_some _ _ c.in_ok-i.i c.in_ok-i.ensures.ok_part c.number_of.ensures in
     let same : c.from_residual-in_err-check_read.result ≡ c.check_read.result = grind arith in
     let shows = rw (sym c.from-standing.ensures) at (found_shows whole found c.index-self-i.result) in
     let told = ap answer same ∙ c.check_read.ensures.answer _ c.args.buffer.now shows refl in
@@ -21,8 +20,7 @@ pub returns : goal.returns
 returns c =
     let s = c.args.self.now in
     let whole = c.args.self.now.whole in
-    let there : c.number_of.result ≡ Some c.in_ok-i.i = grind arith in
-    let found = MatchOption-at_some _ _ c.in_ok-i.i there c.number_of.ensures in
+    let found = MatchOption-at_some _ _ c.in_ok-i.i c.in_ok-i.ensures.ok_part c.number_of.ensures in
     let n = (c.in_ok-i.i * s.shape.pages + c.args.page) * 2048 + c.args.quarter * 512 in
     let e : n + 512 - n ≡ 512 = omega arith in
     let passed = c.in_ok-check_read.ensures.passed in
