@@ -74,17 +74,20 @@ mod tests {
         }
     }
 
+    fn address((bank, block): (usize, usize)) -> BlockAddress {
+        BlockAddress::new(bank, block)
+    }
+
     // What a replacer shows over a bare chip of this shape.
-    fn replaced<const N: usize>(
+    fn replaced(
         heap: Global,
         shape: Shape,
         spares: usize,
-        bad: [(usize, usize); N],
+        bad: &[BlockAddress],
     ) -> Result<Shape, AllocError> {
-        let bad = bad.map(|(bank, block)| BlockAddress::new(bank, block));
         let (mut bytes, mut records) = memory(heap, shape)?;
         let chip = BareChip::new(shape, bytes.as_mut_slice(), records.as_mut_slice());
-        Ok(Replacer::new(chip, spares, &bad).shape())
+        Ok(Replacer::new(chip, spares, bad).shape())
     }
 
     // Each reason alone to show no banks: too many spares or no block beside them, a pair outside or repeated,
@@ -92,57 +95,76 @@ mod tests {
     #[test]
     fn replacers(rt: HostRuntime) {
         let below = Shape::new(2, 8, 1);
-        assert_eq!(rt; replaced(rt.alloc(), below, 0, []), Ok(Shape::new(2, 8, 1)));
-        assert_eq!(rt; replaced(rt.alloc(), below, 7, []), Ok(Shape::new(2, 1, 1)));
-        assert_eq!(rt; replaced(rt.alloc(), below, 8, []), Ok(NO_BANKS));
-        assert_eq!(rt; replaced(rt.alloc(), below, 9, []), Ok(NO_BANKS));
         assert_eq!(rt;
-            replaced(rt.alloc(), below, 2, [(0, 2), (0, 6)]),
+            replaced(rt.alloc(), below, 0, &[]),
+            Ok(Shape::new(2, 8, 1))
+        );
+        assert_eq!(rt;
+            replaced(rt.alloc(), below, 7, &[]),
+            Ok(Shape::new(2, 1, 1))
+        );
+        assert_eq!(rt; replaced(rt.alloc(), below, 8, &[]), Ok(NO_BANKS));
+        assert_eq!(rt; replaced(rt.alloc(), below, 9, &[]), Ok(NO_BANKS));
+        assert_eq!(rt;
+            replaced(rt.alloc(), below, 2, &[(0, 2), (0, 6)].map(address)),
             Ok(Shape::new(2, 6, 1))
         );
         assert_eq!(rt;
-            replaced(rt.alloc(), below, 2, [(0, 2), (0, 6), (1, 7), (1, 0)]),
+            replaced(
+                rt.alloc(),
+                below,
+                2,
+                &[(0, 2), (0, 6), (1, 7), (1, 0)].map(address)
+            ),
             Ok(Shape::new(2, 6, 1))
         );
-        assert_eq!(rt; replaced(rt.alloc(), below, 2, [(2, 0)]), Ok(NO_BANKS));
-        assert_eq!(rt; replaced(rt.alloc(), below, 2, [(0, 8)]), Ok(NO_BANKS));
         assert_eq!(rt;
-            replaced(rt.alloc(), below, 2, [(0, 2), (1, 2), (0, 2)]),
+            replaced(rt.alloc(), below, 2, &[(2, 0)].map(address)),
             Ok(NO_BANKS)
         );
         assert_eq!(rt;
-            replaced(rt.alloc(), below, 2, [(0, 2), (0, 3), (0, 4)]),
+            replaced(rt.alloc(), below, 2, &[(0, 8)].map(address)),
             Ok(NO_BANKS)
         );
         assert_eq!(rt;
-            replaced(rt.alloc(), below, 2, [(1, 2), (1, 6), (1, 3)]),
+            replaced(rt.alloc(), below, 2, &[(0, 2), (1, 2), (0, 2)].map(address)),
             Ok(NO_BANKS)
         );
-        assert_eq!(rt; replaced(rt.alloc(), below, 0, [(1, 7)]), Ok(NO_BANKS));
+        assert_eq!(rt;
+            replaced(rt.alloc(), below, 2, &[(0, 2), (0, 3), (0, 4)].map(address)),
+            Ok(NO_BANKS)
+        );
+        assert_eq!(rt;
+            replaced(rt.alloc(), below, 2, &[(1, 2), (1, 6), (1, 3)].map(address)),
+            Ok(NO_BANKS)
+        );
+        assert_eq!(rt;
+            replaced(rt.alloc(), below, 0, &[(1, 7)].map(address)),
+            Ok(NO_BANKS)
+        );
     }
 
-    // So many different blocks: the first ones of 16 banks, then the second ones, and so on.
-    fn spread<const N: usize>() -> [(usize, usize); N] {
-        array::from_fn(|i| (i % 16, i / 16))
+    // Different blocks: the first ones of 16 banks, then the second ones, and so on.
+    fn spread(i: usize) -> BlockAddress {
+        BlockAddress::new(i % 16, i / 16)
     }
 
     // Eight spares at most, and 32 bad blocks at most.
     #[test]
     fn limits(rt: HostRuntime) {
         let below = Shape::new(16, 16, 1);
+        let most: [BlockAddress; 32] = array::from_fn(spread);
+        let more: [BlockAddress; 33] = array::from_fn(spread);
         assert_eq!(rt;
-            replaced(rt.alloc(), below, 8, []),
+            replaced(rt.alloc(), below, 8, &[]),
             Ok(Shape::new(16, 8, 1))
         );
-        assert_eq!(rt; replaced(rt.alloc(), below, 9, []), Ok(NO_BANKS));
+        assert_eq!(rt; replaced(rt.alloc(), below, 9, &[]), Ok(NO_BANKS));
         assert_eq!(rt;
-            replaced(rt.alloc(), below, 3, spread::<32>()),
+            replaced(rt.alloc(), below, 3, &most),
             Ok(Shape::new(16, 13, 1))
         );
-        assert_eq!(rt;
-            replaced(rt.alloc(), below, 3, spread::<33>()),
-            Ok(NO_BANKS)
-        );
+        assert_eq!(rt; replaced(rt.alloc(), below, 3, &more), Ok(NO_BANKS));
     }
 
     // A byte that is stored by its position, page, block and bank, and read back as it was.
@@ -204,7 +226,7 @@ mod tests {
         let chip = BareChip::new(Shape::new(1, 8, 2), bytes, records);
         let pair = Pair::new(chip, CardImage::open(image));
         let bad = [(0, 2), (0, 6), (2, 0), (2, 5)];
-        let bad = bad.map(|(bank, block)| BlockAddress::new(bank, block));
+        let bad = bad.map(address);
         let mut stack = Whitener::new(Replacer::new(pair, 2, &bad));
         let at = BlockAddress::new(2, 0);
         let filled = fill(&mut stack)?;
