@@ -1,4 +1,4 @@
--- What holds of the book of every card that was made and used by its calls.
+-- What holds of the book of every card: it lies on the flash of the card as it should.
 use Rattle.std.specs.Prelude.{◌≡◌, ℕ, ◌<◌, ◌≤◌, is_some, Some, None, Option, ◌≢◌, ◌⊎◌}
 use Rattle.std.proofs.Common.{ap, arith, inl, inr}
 use Rattle.std.proofs.Props.{props}
