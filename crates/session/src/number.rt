@@ -18,6 +18,6 @@ pub fn number(word: &[u8]) -> Option<usize>
     if !is_numeral(word) {
         return None;
     }
-    // digits alone fail to parse only where there are too many
+    // digits are text, and alone fail to parse only where there are too many
     Some(str::from_utf8(word).ok()?.parse().unwrap_or(usize::MAX))
 }

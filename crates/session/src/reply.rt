@@ -1,4 +1,4 @@
-// What lines are answered with, and its text.
+// The answers to lines, and their texts.
 ghost use Rattle.std.specs.Prelude.{◌≡◌, ◌-◌, Some};
 ghost use Rattle.zones.specs.Numbers.{refusal_number};
 ghost use Rattle.session.specs.Replies.{shown};
@@ -6,6 +6,7 @@ ghost use Rattle.session.specs.Replies.{shown};
 use std::fmt;
 use zones::{CardRefusal, Done, ZoneReport};
 
+// What a line is answered with. Its text is what a program writes.
 #[derive(Debug, Drop)]
 pub enum Reply {
     // to a line that is no command
