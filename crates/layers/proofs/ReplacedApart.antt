@@ -1,5 +1,5 @@
 -- That shown blocks are found at places of the bank, and two of them at two places.
-use Rattle.std.proofs.Common.{Some, ◌≡◌, ℕ, zero, suc, ◌+◌, ◌-◌, ◌<◌, ◌≤◌, true, false, not, ◌&&◌, nat_le, nat_lt, List, ◌∷◌, ◌++◌, length, get_or, ap, sym, ◌∙◌, ⊎_elim, add-zero, zero-add, arith}
+use Rattle.std.proofs.Common.{Some, ◌≡◌, ℕ, zero, suc, ◌+◌, ◌-◌, ◌<◌, ◌≤◌, true, false, not, List, ◌∷◌, ◌++◌, length, get_or, ap, sym, ◌∙◌, add-zero, zero-add, arith}
 use Rattle.std.proofs.lemmas.Option.{slice_get-get_or}
 use Rattle.std.specs.List.{slice_get, All, AllPairs, range_with_len}
 use Rattle.std.proofs.lemmas.List.{length-append}
@@ -7,12 +7,14 @@ use Rattle.std.proofs.lemmas.List.Elements.{All-filter, filter-append}
 use Rattle.std.proofs.lemmas.List.FromFn.{get_or-range_with_len, length-range_with_len}
 use Rattle.std.proofs.lemmas.List.Kept.{AllPairs-filter, AllPairs-from_increasing}
 use Rattle.std.proofs.lemmas.List.Sums.{AllPass-from_list_all}
-use Rattle.std.proofs.lemmas.Bool.{and_parts, cases_Bool, cond-false, cond-true, cases_lt, leb-true}
+use Rattle.std.proofs.lemmas.Bool.Decides.{nat_tests}
+use Rattle.std.proofs.lemmas.Bool.{cases_Bool, cond-false, cond-true, leb-true}
 use Rattle.flash.specs.declared.BlockAddress.{BlockAddress}
 use Rattle.flash.specs.Maps.{bad_of, good_of, is_bad}
+use Rattle.flash.specs.Memory.{Memory, shape_of}
 use Rattle.layers.specs.declared.replacer.plan.Plan.{Plan}
 use Rattle.layers.specs.ReplacedPlan.{planned, shown_of}
-use Rattle.layers.specs.Replaced.{bank_enough, enough, listed, replaceable}
+use Rattle.layers.specs.Replaced.{bank_enough, enough, place_in, replaceable}
 
 -- ---- the numbers of a range
 range_split : (a m n : ℕ) → range_with_len a (m + n) ≡ range_with_len a m ++ range_with_len (a + m) n
@@ -29,17 +31,15 @@ range_rises a n =
 
 range_within : (a n : ℕ) → All (λ x. (a ≤ x) × (x < a + n)) (range_with_len a n)
 range_within a n k d h =
+    let is = get_or-range_with_len a n k d (omega (arith, length-range_with_len a n)) in
     let low : k < n = omega (arith, length-range_with_len a n) in
-    (omega (arith, get_or-range_with_len a n k d low), omega (arith, get_or-range_with_len a n k d low))
+    (omega (arith, is), omega (arith, is))
 
 -- ---- where the bad blocks can be replaced, each bank has good spares enough
 each_enough : (banks blocks spares : ℕ) (bad : List BlockAddress) → replaceable banks blocks spares bad ≡ true → (bank : ℕ) → bank < banks → bank_enough blocks spares bad bank ≡ true
 each_enough banks blocks spares bad e bank h =
-    let x = and_parts (nat_le spares 8) (nat_lt spares blocks && (nat_le (length bad) 32 && (listed banks blocks bad && enough blocks spares bad banks))) e in
-    let y = and_parts (nat_lt spares blocks) (nat_le (length bad) 32 && (listed banks blocks bad && enough blocks spares bad banks)) x.1 in
-    let z = and_parts (nat_le (length bad) 32) (listed banks blocks bad && enough blocks spares bad banks) y.1 in
-    let w = and_parts (listed banks blocks bad) (enough blocks spares bad banks) z.1 in
-    ap (bank_enough blocks spares bad) (sym (get_or-range_with_len 0 banks bank 0 h ∙ zero-add bank)) ∙ AllPass-from_list_all (bank_enough blocks spares bad) (range_with_len 0 banks) w.1 bank 0 (omega (arith, length-range_with_len 0 banks))
+    let w : enough blocks spares bad banks ≡ true = grind (arith, nat_tests) in
+    ap (bank_enough blocks spares bad) (sym (get_or-range_with_len 0 banks bank 0 h ∙ zero-add bank)) ∙ AllPass-from_list_all (bank_enough blocks spares bad) (range_with_len 0 banks) w bank 0 (omega (arith, length-range_with_len 0 banks))
 
 -- ---- the places that a plan has in a bank
 module _ (p : Plan) (bank : ℕ) (low : bank < p.below.banks) where
@@ -62,14 +62,9 @@ module _ (p : Plan) (bank : ℕ) (low : bank < p.below.banks) where
   before_rises : (j k : ℕ) → j < k → is_bad bad bank j ≡ true → before j < before k
   before_rises j k h t =
       let more : j + suc (k - j - 1) ≡ k = omega arith in
-      let first : is_bad bad bank (0 + j) ≡ true = ap (is_bad bad bank) (zero-add j) ∙ t in
-      let rest = bad_of bad bank (range_with_len (0 + j + 1) (k - j - 1)) in
-      let split : bad_of bad bank (range_with_len 0 k) ≡ bad_of bad bank (range_with_len 0 j) ++ (0 + j) ∷ rest =
-      ap (λ n. bad_of bad bank (range_with_len 0 n)) (sym more)
-      ∙ (ap (bad_of bad bank) (range_split 0 j (suc (k - j - 1)))
-      ∙ (filter-append (is_bad bad bank) (range_with_len 0 j) (range_with_len (0 + j) (suc (k - j - 1)))
-      ∙ ap (λ xs. bad_of bad bank (range_with_len 0 j) ++ xs) (cond-true (is_bad bad bank (0 + j)) ((0 + j) ∷ rest) rest first))) in
-      omega (arith, ap length split, length-append (bad_of bad bank (range_with_len 0 j)) ((0 + j) ∷ rest))
+      let split = simp (more, filter-append {X = ℕ}, length-append {A = ℕ}, zero-add) at (ap (λ xs. length (bad_of bad bank xs)) (range_split 0 j (suc (k - j - 1)))) in
+      let rest = bad_of bad bank (range_with_len (j + 1) (k - j - 1)) in
+      omega (arith, split, ap length (cond-true (is_bad bad bank j) (j ∷ rest) rest t))
 
   -- a bad block is found at a good spare
   module _ (k : ℕ) (h : k < shown) (is : is_bad bad bank k ≡ true) where
@@ -91,7 +86,10 @@ module _ (p : Plan) (bank : ℕ) (low : bank < p.below.banks) where
   place_good k good = cond-false (is_bad bad bank k) (get_or goods (before k) 0) k good
 
   pub place_below : (k : ℕ) → k < shown → place k < p.below.blocks
-  place_below k h = ⊎_elim (λ t. (place_spare k h t).1) (λ t. omega (arith, place_good k t)) (cases_Bool (is_bad bad bank k))
+  place_below k h =
+      let spare = place_spare k h in
+      let good = place_good k in
+      let t = cases_Bool (is_bad bad bank k) in grind arith
 
   bad_rise : (j k : ℕ) → j < k → k < shown → is_bad bad bank j ≡ true → is_bad bad bank k ≡ true → place j < place k
   bad_rise j k h l s t =
@@ -102,13 +100,29 @@ module _ (p : Plan) (bank : ℕ) (low : bank < p.below.banks) where
         AllPairs-filter (λ x y. x < y) (λ x. not (is_bad bad bank x)) (range_with_len shown p.spares) (range_rises shown p.spares) (before j) (before k) 0 (before_rises j k h s) (spared k l t),
       )
 
-  place_apart : (j k : ℕ) → j < k → k < shown → place j ≡ place k → ⊥
-  place_apart j k h l e =
-      ⊎_elim
-      (λ s. ⊎_elim (λ t. omega (arith, e, bad_rise j k h l s t)) (λ t. omega (arith, e, (place_spare j (omega arith) s).0, place_good k t)) (cases_Bool (is_bad bad bank k)))
-      (λ s. ⊎_elim (λ t. omega (arith, e, (place_spare k l t).0, place_good j s)) (λ t. omega (arith, e, place_good j s, place_good k t)) (cases_Bool (is_bad bad bank k)))
-      (cases_Bool (is_bad bad bank j))
-
   pub place_same : (j k : ℕ) → j < shown → k < shown → place j ≡ place k → j ≡ k
   place_same j k h l e =
-      ⊎_elim (λ u. absurd (place_apart j k u l e)) (λ u. ⊎_elim (λ v. absurd (place_apart k j v h (sym e))) (λ v. omega arith) (cases_lt k j)) (cases_lt j k)
+      let jb = place_spare j h in
+      let kb = place_spare k l in
+      let jg = place_good j in
+      let kg = place_good k in
+      let jk = bad_rise j k in
+      let kj = bad_rise k j in
+      let tj = cases_Bool (is_bad bad bank j) in
+      let tk = cases_Bool (is_bad bad bank k) in grind arith
+
+-- ---- rows with these places, over a flash of the plan's shape
+module _ (p : Plan) (m : Memory) (over : p.below ≡ shape_of m) (shown : ℕ) (some : shown ≡ shown_of p) (rows : List (List ℕ))
+    (have : (b k : ℕ) → b < p.below.banks → k < shown_of p → place_in rows b k ≡ planned p b k) where
+  pub rows_low : (b k : ℕ) → b < m.banks → k < shown → place_in rows b k < m.blocks
+  rows_low b k h l =
+      let bank : b < p.below.banks = omega (arith, h, ap (λ s. s.banks) over) in
+      let is : k < shown_of p = omega arith in
+      omega (arith, have b k bank is, place_below p b bank k is, ap (λ s. s.blocks) over)
+
+  pub rows_apart : (b j k : ℕ) → b < m.banks → j < shown → k < shown → place_in rows b j ≡ place_in rows b k → j ≡ k
+  rows_apart b j k h l n e =
+      let bank : b < p.below.banks = omega (arith, h, ap (λ s. s.banks) over) in
+      let first : j < shown_of p = omega arith in
+      let other : k < shown_of p = omega arith in
+      place_same p b bank j k first other (sym (have b j bank first) ∙ (e ∙ have b k bank other))

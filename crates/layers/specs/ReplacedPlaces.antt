@@ -1,54 +1,42 @@
--- What a flash shows through a table of places, and that it keeps within the bounds of a flash: the trait asks for that as a member, so its proof stands here.
-use Rattle.std.specs.Prelude.{◌≡◌, ℕ, ◌<◌, cond, ◌&&◌, Option, Some, None, nat_lt, refl}
+-- What a flash shows through rows of places, and that it keeps within the bounds of a flash: the trait asks for that as a member, so its proof stands here.
+use Rattle.std.specs.Prelude.{◌≡◌, ℕ, ◌<◌, ◌≤◌, cond, ◌&&◌, List, nat_lt}
 use Rattle.std.proofs.Common.{arith}
-use Rattle.std.proofs.lemmas.Bool.{cond_both, cond-false}
-use Rattle.std.specs.Option.{ForSome}
+use Rattle.std.proofs.lemmas.Bool.{cond_both, cond-false, ltb-true}
 use Rattle.flash.specs.declared.BlockAddress.{BlockAddress}
 use Rattle.flash.specs.Memory.{Memory, Bounds, SoundBlock, no_banks, no_banks_bounds, no_block, no_block_sound}
 use Rattle.layers.specs.Replaced.{place_in}
-use Rattle.layers.specs.declared.replacer.places.Places.{Places}
 
--- where a shown block is found
-abbrev pub place_of : Places → ℕ → ℕ → ℕ
-place_of p b k = place_in p.rows b k
-
--- each shown block, found at its place
-abbrev pub relocated : Places → Memory → Memory
-relocated p m = record {
+-- the first `shown` blocks of each bank, each found at its place
+abbrev pub relocated : ℕ → List (List ℕ) → Memory → Memory
+relocated shown rows m = record {
   banks = m.banks;
-  blocks = p.shown;
+  blocks = shown;
   depth = m.depth;
-  at = λ b k. cond (nat_lt b m.banks && nat_lt k p.shown) (m.at b (place_of p b k)) no_block;
+  at = λ b k. cond (nat_lt b m.banks && nat_lt k shown) (m.at b (place_in rows b k)) no_block;
 }
 
--- with no places there are no banks
-abbrev pub shown_by : Option Places → Memory → Memory
-shown_by None m = no_banks
-shown_by (Some p) m = relocated p m
+-- and no banks where no block is shown
+abbrev pub shown_by : ℕ → List (List ℕ) → Memory → Memory
+shown_by shown rows m = cond (nat_lt 0 shown) (relocated shown rows m) no_banks
 
 -- the block is shown, and found at `to` below
-pub record Found (p : Places) (at to : BlockAddress) : Type 0 where
-  pub bank : at.bank < p.below.banks
-  pub block : at.block < p.shown
+pub record Found (shown : ℕ) (rows : List (List ℕ)) (m : Memory) (at to : BlockAddress) : Type 0 where
+  pub bank : at.bank < m.banks
+  pub block : at.block < shown
   pub same_bank : to.bank ≡ at.bank
-  pub is : to.block ≡ place_of p at.bank at.block
+  pub is : to.block ≡ place_in rows at.bank at.block
 
 -- ---- the bounds
--- the places are those of a flash of this shape
-abbrev pub FitsFlash : Option Places → Memory → Type 0
-FitsFlash places m = ForSome places (λ p. (p.below.banks ≡ m.banks) × ((p.below.blocks ≡ m.blocks) × (p.below.pages ≡ m.depth)))
-
-relocated_bounds : (p : Places) (m : Memory) → Bounds m → p.below.blocks ≡ m.blocks → Bounds (relocated p m)
-relocated_bounds p m bm e = record {
+relocated_bounds : (shown : ℕ) (rows : List (List ℕ)) (m : Memory) → Bounds m → 0 < shown → shown ≤ m.blocks → Bounds (relocated shown rows m)
+relocated_bounds shown rows m bm some few = record {
   banks = bm.banks;
-  blocks = omega (arith, p.few_blocks, p.within);
+  blocks = omega (arith, few, bm.blocks);
   depth = bm.depth;
-  some = λ h. (p.some, (bm.some h).1);
-  none = λ h. absurd (omega (arith, (bm.none h).0, p.some, p.within));
-  each = λ b k. cond_both (nat_lt b m.banks && nat_lt k p.shown) (m.at b (place_of p b k)) no_block (SoundBlock m.depth) (λ _. bm.each b (place_of p b k)) (λ _. no_block_sound m.depth);
-  outside = λ b k e. cond-false (nat_lt b m.banks && nat_lt k p.shown) (m.at b (place_of p b k)) no_block e;
+  some = λ h. (some, (bm.some h).1);
+  none = λ h. absurd (omega (arith, (bm.none h).0, some, few));
+  each = λ b k. cond_both (nat_lt b m.banks && nat_lt k shown) (m.at b (place_in rows b k)) no_block (SoundBlock m.depth) (λ _. bm.each b (place_in rows b k)) (λ _. no_block_sound m.depth);
+  outside = λ b k e. cond-false (nat_lt b m.banks && nat_lt k shown) (m.at b (place_in rows b k)) no_block e;
 }
 
-pub shown_by_bounds : (places : Option Places) (m : Memory) → Bounds m → FitsFlash places m → Bounds (shown_by places m)
-shown_by_bounds None m bm fits = no_banks_bounds
-shown_by_bounds (Some p) m bm fits = relocated_bounds p m bm (fits p refl).1.0
+pub shown_by_bounds : (shown : ℕ) (rows : List (List ℕ)) (m : Memory) → Bounds m → shown ≤ m.blocks → Bounds (shown_by shown rows m)
+shown_by_bounds shown rows m bm few = cond_both (nat_lt 0 shown) (relocated shown rows m) no_banks Bounds (λ e. relocated_bounds shown rows m bm (ltb-true 0 shown e) few) (λ _. no_banks_bounds)

@@ -1,21 +1,25 @@
 // A flash with bad blocks as a smaller flash without them: the last blocks of each bank are spares, and replace the bad ones.
-ghost use Rattle.std.specs.Prelude.{◌≡◌, false, IsSomeAnd, MatchOption};
+ghost use Rattle.std.specs.Prelude.{◌≡◌, ℕ, ◌<◌, ◌≤◌, false, MatchOption};
 ghost use Rattle.flash.specs.Memory.{inside};
-ghost use Rattle.layers.specs.Replaced.{replaced};
-ghost use Rattle.layers.specs.ReplacedPlaces.{FitsFlash, Found, shown_by, shown_by_bounds};
+ghost use Rattle.layers.specs.Replaced.{place_in, replaced};
+ghost use Rattle.layers.specs.ReplacedPlaces.{Found, shown_by, shown_by_bounds};
 
-use self::places::Places;
+use self::plan::Plan;
 use flash::{BlockAddress, Flash, NO_BANKS, Refusal, Shape};
 
-mod places;
 mod plan;
 
+// The flash `inner`, of which the first `shown` blocks of each bank are shown: none where its bad blocks cannot be replaced.
+// For each bank a row has the places of these blocks, no two at one place. The rows are worked out once, and looked up in each call;
+// they have room for the largest flash, since the layers allocate nothing.
 #[derive(Drop)]
 pub struct Replacer<F: Flash> {
     inner: F,
-    // none where the bad blocks cannot be replaced
-    places: Option<Places>,
-    ghost fits: { FitsFlash places (F.Flash.memory inner) },
+    shown: usize,
+    rows: [[u8; 64]; 16],
+    ghost few: { shown ≤ (F.Flash.memory inner).blocks },
+    ghost low: { (b k : ℕ) → b < (F.Flash.memory inner).banks → k < shown → place_in rows b k < (F.Flash.memory inner).blocks },
+    ghost apart: { (b j k : ℕ) → b < (F.Flash.memory inner).banks → j < shown → k < shown → place_in rows b j ≡ place_in rows b k → j ≡ k },
 }
 
 impl<F: Flash> Replacer<F> {
@@ -23,30 +27,47 @@ impl<F: Flash> Replacer<F> {
     // It shows no banks where there are more than 8 spares or no blocks besides them, where there are more than 32 bad blocks,
     // one that is not a block of the flash or one that is repeated, or where a bank has too few good spares.
     pub fn new(inner: F, spares: usize, bad: &[BlockAddress]) -> Self
-        ensures memory { shown_by result.places (F.Flash.memory result.inner) ≡ replaced spares bad.now (F.Flash.memory inner) }
+        ensures memory { shown_by result.shown result.rows (F.Flash.memory result.inner) ≡ replaced spares bad.now (F.Flash.memory inner) }
         ensures inner { result.inner ≡ inner }
     {
-        let places = Places::new(&inner, spares, bad);
-        Replacer { inner, places }
+        let Some(plan) = Plan::new(&inner, spares, bad) else {
+            return Replacer {
+                inner,
+                shown: 0,
+                rows: [[0; 64]; 16],
+            };
+        };
+        Replacer {
+            inner,
+            shown: plan.shown(),
+            rows: plan.rows(),
+        }
     }
 
     // Where a block is found below, or none where the block is not shown.
     fn find(&self, at: BlockAddress) -> Option<BlockAddress>
-        ensures { MatchOption result (inside (shown_by self.now.places (F.Flash.memory self.now.inner)) at.bank at.block ≡ false) (λ to. IsSomeAnd self.now.places (λ p. Found p at to)) }
+        ensures { MatchOption result (inside (shown_by self.now.shown self.now.rows (F.Flash.memory self.now.inner)) at.bank at.block ≡ false) (Found self.now.shown self.now.rows (F.Flash.memory self.now.inner) at) }
     {
-        self.places.as_ref()?.find(at)
+        self.shape().contains(at).then(|| BlockAddress {
+            block: usize::from(self.rows[at.bank][at.block]),
+            ..at
+        })
     }
 }
 
 impl<F: Flash> Flash for Replacer<F> {
-    ghost memory = { λ s. shown_by s.places (F.Flash.memory s.inner) };
+    ghost memory = { λ s. shown_by s.shown s.rows (F.Flash.memory s.inner) };
 
-    ghost bounds = { λ s. shown_by_bounds s.places (F.Flash.memory s.inner) (F.Flash.bounds s.inner) s.fits };
+    ghost bounds = { λ s. shown_by_bounds s.shown s.rows (F.Flash.memory s.inner) (F.Flash.bounds s.inner) s.few };
 
     fn shape(&self) -> Shape {
-        self.places
-            .as_ref()
-            .map_or(NO_BANKS, |places| places.shape())
+        if self.shown == 0 {
+            return NO_BANKS;
+        }
+        Shape {
+            blocks: self.shown,
+            ..self.inner.shape()
+        }
     }
 
     fn standing(&self, at: BlockAddress) -> Option<usize> {

@@ -5,5 +5,7 @@ use Rattle.layers.proofs.replacer.ReplacerFlash.read.Goals as goal
 
 pub returns : goal.returns
 returns g c =
-    let at = in_place c.args.self.now.places (g.F.Flash.memory c.args.self.now.inner) c.args.self.now.fits c.args.at c.in_ok-place.place (rw c.in_ok-place.ensures.ok_part at c.find.ensures) in
+    let s = c.args.self.now in
+    let found = rw c.in_ok-place.ensures.ok_part at c.find.ensures in
+    let at = in_place s.shown s.rows (g.F.Flash.memory s.inner) c.args.at c.in_ok-place.place found (s.low c.args.at.bank c.args.at.block found.bank found.block) (λ k l. s.apart c.args.at.bank k c.args.at.block found.bank l found.block) in
     record { answer = told at (λ s. read_number s c.args.page c.args.quarter c.args.buffer.now) _ c.read.ensures.answer; buffer = told at (λ s. filled s c.args.page c.args.quarter c.args.buffer.now) _ c.read.ensures.buffer }
