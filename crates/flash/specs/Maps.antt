@@ -1,5 +1,5 @@
 -- The maps of numbers on which two layers rest: how a byte is whitened, and where a replaced block is found.
-use Rattle.std.specs.Prelude.{ℕ, zero, suc, ◌+◌, ◌-◌, ◌*◌, ◌%◌, Bool, true, false, cond, not, ◌&&◌, ◌||◌, List, [], ◌∷◌, ◌++◌, length, ◌==◌, bit_xor, slice_index}
+use Rattle.std.specs.Prelude.{ℕ, ◌+◌, ◌-◌, ◌*◌, ◌%◌, Bool, cond, not, ◌&&◌, List, length, ◌==◌, bit_xor, slice_index}
 use Rattle.std.specs.List.{filter, list_any, range_with_len}
 use Rattle.flash.specs.declared.BlockAddress.{BlockAddress}
 

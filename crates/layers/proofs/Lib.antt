@@ -2,5 +2,4 @@ mod Carried
 mod Indexed
 mod ReplacedApart
 mod ReplacedLists
-mod Replacing
 mod Whites

@@ -25,6 +25,7 @@ pub record Found (shown : ℕ) (rows : List (List ℕ)) (m : Memory) (at to : Bl
   pub block : at.block < shown
   pub same_bank : to.bank ≡ at.bank
   pub is : to.block ≡ place_in rows at.bank at.block
+  pub low : to.block < m.blocks
 
 -- ---- the bounds
 relocated_bounds : (shown : ℕ) (rows : List (List ℕ)) (m : Memory) → Bounds m → 0 < shown → shown ≤ m.blocks → Bounds (relocated shown rows m)

@@ -17,8 +17,8 @@ found c =
 pub unwrap-requires : goal.unwrap-requires
 unwrap-requires c = let h = found c in search rules
 
-pub returns-clause-is : goal.returns-clause-is
-returns-clause-is c = let h = found c.before in cc
-
 pub returns-clause-low : goal.returns-clause-low
-returns-clause-low c = omega (arith, returns-clause-is c, place_below c.args.self.now c.args.bank c.requires.bank c.args.block c.requires.shown)
+returns-clause-low c =
+    let h = found c.before in
+    let is : c.unwrap.result ≡ planned c.args.self.now c.args.bank c.args.block = cc in
+    omega (arith, is, place_below c.args.self.now c.args.bank c.requires.bank c.args.block c.requires.shown)
