@@ -14,7 +14,8 @@ use Rattle.flash.specs.Maps.{bad_of, good_of, is_bad}
 use Rattle.flash.specs.Memory.{Memory, shape_of}
 use Rattle.layers.specs.declared.replacer.plan.Plan.{Plan}
 use Rattle.layers.specs.ReplacedPlan.{planned, shown_of}
-use Rattle.layers.specs.Replaced.{bank_enough, enough, place_in, replaceable}
+use Rattle.layers.specs.Replaced.{bank_enough, enough, replaceable}
+use Rattle.layers.specs.ReplacedPlaces.{place_in}
 
 -- ---- the numbers of a range
 range_split : (a m n : ℕ) → range_with_len a (m + n) ≡ range_with_len a m ++ range_with_len (a + m) n

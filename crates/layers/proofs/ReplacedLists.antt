@@ -13,6 +13,7 @@ use Rattle.layers.specs.Replaced.{listed}
 abbrev pub good_entry : ℕ → ℕ → List BlockAddress → ℕ × BlockAddress → Bool
 good_entry banks blocks all p = ltb p.1.bank banks && (ltb p.1.block blocks && not (is_bad (drop (p.0 + 1) all) p.1.bank p.1.block))
 
+-- what is left of the list decides
 listed_from : (banks blocks i : ℕ) (all rest : List BlockAddress) → drop i all ≡ rest → list_all (good_entry banks blocks all) (enumerate_from i rest) ≡ listed banks blocks rest
 listed_from banks blocks i all [] e = refl
 listed_from banks blocks i all (x ∷ xs) e =
@@ -20,6 +21,7 @@ listed_from banks blocks i all (x ∷ xs) e =
     let more = listed_from banks blocks (i + 1) all xs f in
     let same = ap (λ r. not (is_bad r x.bank x.block)) f in grind arith
 
+-- each entry is good, or some entry is not
 pub listed_is : (banks blocks : ℕ) (bad : List BlockAddress) (r : Bool)
     → MatchBool r (AllWithin (λ p. good_entry banks blocks bad p ≡ true) (enumerate_from 0 bad) 0 (length (enumerate_from 0 bad))) ((k : ℕ) × (k < length (enumerate_from 0 bad)) × HoldsAt (λ p. good_entry banks blocks bad p ≡ false) (enumerate_from 0 bad) k)
     → r ≡ listed banks blocks bad

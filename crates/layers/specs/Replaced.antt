@@ -1,5 +1,5 @@
 -- What a flash shows whose bad blocks are replaced by spares: of the K blocks in a bank the last S are spares.
-use Rattle.std.specs.Prelude.{ℕ, ◌-◌, Bool, true, cond, not, ◌&&◌, List, [], ◌∷◌, length, nat_le, nat_lt, slice_index, slice_index_or}
+use Rattle.std.specs.Prelude.{ℕ, ◌-◌, Bool, true, cond, not, ◌&&◌, List, [], ◌∷◌, length, nat_le, nat_lt}
 use Rattle.std.specs.List.{list_all, range_with_len}
 use Rattle.flash.specs.declared.BlockAddress.{BlockAddress}
 use Rattle.flash.specs.Maps.{bad_of, good_of, is_bad, replaced_block}
@@ -34,7 +34,3 @@ replaced spares bad m = cond (replaceable m.banks m.blocks spares bad) (record {
   depth = m.depth;
   at = λ b k. cond (nat_lt b m.banks && nat_lt k (m.blocks - spares)) (m.at b (replaced_block m.blocks spares bad b k)) no_block;
 }) no_banks
-
--- ---- a table of places: for each bank a row, with the place of each shown block
-abbrev pub place_in : List (List ℕ) → ℕ → ℕ → ℕ
-place_in rows bank block = slice_index (slice_index_or rows bank []) block

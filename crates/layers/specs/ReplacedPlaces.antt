@@ -1,10 +1,13 @@
 -- What a flash shows through rows of places, and that it keeps within the bounds of a flash: the trait asks for that as a member, so its proof stands here.
-use Rattle.std.specs.Prelude.{◌≡◌, ℕ, ◌<◌, ◌≤◌, cond, ◌&&◌, List, nat_lt}
+use Rattle.std.specs.Prelude.{◌≡◌, ℕ, ◌<◌, ◌≤◌, cond, ◌&&◌, List, [], nat_lt, slice_index, slice_index_or}
 use Rattle.std.proofs.Common.{arith}
 use Rattle.std.proofs.lemmas.Bool.{cond_both, cond-false, ltb-true}
 use Rattle.flash.specs.declared.BlockAddress.{BlockAddress}
 use Rattle.flash.specs.Memory.{Memory, Bounds, SoundBlock, no_banks, no_banks_bounds, no_block, no_block_sound}
-use Rattle.layers.specs.Replaced.{place_in}
+
+-- where the rows, one for each bank, have the block k of the bank b
+abbrev pub place_in : List (List ℕ) → ℕ → ℕ → ℕ
+place_in rows b k = slice_index (slice_index_or rows b []) k
 
 -- the first `shown` blocks of each bank, each found at its place
 abbrev pub relocated : ℕ → List (List ℕ) → Memory → Memory

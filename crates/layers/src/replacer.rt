@@ -1,8 +1,8 @@
 // A flash with bad blocks as a smaller flash without them: the last blocks of each bank are spares, and replace the bad ones.
 ghost use Rattle.std.specs.Prelude.{◌≡◌, ℕ, ◌<◌, ◌≤◌, false, MatchOption};
 ghost use Rattle.flash.specs.Memory.{inside};
-ghost use Rattle.layers.specs.Replaced.{place_in, replaced};
-ghost use Rattle.layers.specs.ReplacedPlaces.{Found, shown_by, shown_by_bounds};
+ghost use Rattle.layers.specs.Replaced.{replaced};
+ghost use Rattle.layers.specs.ReplacedPlaces.{Found, place_in, shown_by, shown_by_bounds};
 
 use self::plan::Plan;
 use flash::{BlockAddress, Flash, NO_BANKS, Refusal, Shape};

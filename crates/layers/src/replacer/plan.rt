@@ -3,7 +3,8 @@ ghost use Rattle.std.specs.Prelude.{◌≡◌, ℕ, ◌-◌, ◌<◌, ◌≤◌,
 ghost use Rattle.std.specs.List.{range_with_len};
 ghost use Rattle.flash.specs.Maps.{bad_of, good_of, is_bad};
 ghost use Rattle.flash.specs.Memory.{shape_of};
-ghost use Rattle.layers.specs.Replaced.{enough, listed, place_in, replaceable};
+ghost use Rattle.layers.specs.Replaced.{enough, listed, replaceable};
+ghost use Rattle.layers.specs.ReplacedPlaces.{place_in};
 
 use flash::{BlockAddress, Flash, Shape};
 use std::ops::Range;

@@ -1,6 +1,6 @@
 use Rattle.std.proofs.Common.{◌≡◌, ℕ, ◌<◌}
 use Rattle.layers.specs.ReplacedPlan.{planned, shown_of}
-use Rattle.layers.specs.Replaced.{place_in}
+use Rattle.layers.specs.ReplacedPlaces.{place_in}
 use Rattle.layers.proofs.replacer.plan.Plan.rows.Given as goal
 
 -- the rows so far have the places
