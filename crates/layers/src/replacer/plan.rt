@@ -62,7 +62,7 @@ fn replaceable(below: Shape, spares: usize, bad: &[BlockAddress]) -> bool
 // A flash of the shape `below`, and its bad blocks, which the last `spares` blocks of each bank can replace.
 #[derive(Drop)]
 pub(super) struct Plan<'a> {
-    pub below: Shape,
+    below: Shape,
     spares: usize,
     bad: &'a [BlockAddress],
     ghost few_banks: { below.banks ≤ 16 },
