@@ -1,12 +1,11 @@
 mod Blocks
 mod Calls
+mod Chains
 mod Checked
-mod ImageBlocks
+mod Formatted
 mod ImageCalls
-mod ImageMarks
-mod ImageReopens
+mod ImageChanged
 mod Numbered
 mod Pages
+mod Records
 mod Stretches
-mod BlankOpens
-mod BlankWrites

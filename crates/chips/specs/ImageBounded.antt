@@ -8,7 +8,7 @@ use Rattle.std.proofs.lemmas.Bool.{and_parts, cases_Bool, cond_both, cond-false,
 use Rattle.std.proofs.lemmas.Bool.Decides.{nat_tests}
 use Rattle.flash.specs.Memory.{Bounds, SoundBlock, no_banks, no_banks_bounds, no_block}
 use Rattle.flash.specs.declared.Shape.{Shape}
-use Rattle.chips.specs.ImageLayout.{block_in, block_size, block_start, header_mark, image_length, image_sizes_fit, is_image, named_shape, page_in, page_start, shape_in, standing_in, standing_mark, stored}
+use Rattle.chips.specs.ImageLayout.{block_in, block_size, block_start, header_mark, image_length, image_sizes_fit, is_image, named_shape, page_in, page_start, record_at, shape_in, standing_in, stands, stored}
 use Rattle.chips.specs.ImageMemory.{bytes_of, memory_of_image}
 use Rattle.chips.specs.Numbered.{numbered_bounds}
 use Rattle.chips.specs.Layout.{block_count, shape_fits}
@@ -16,24 +16,24 @@ use Rattle.chips.specs.Shapes.{Ranges, no_shape, ranges_of}
 use Rattle.chips.specs.declared.image.CardImage.{CardImage}
 
 -- no more pages stand than there are
-pub standing_most : (bytes : List ℕ) (start n : ℕ) → standing_in bytes start n ≤ n
-standing_most bytes start zero = omega arith
-standing_most bytes start (suc n) =
-    cond_both (standing_mark bytes (page_start start n)) (suc n) (standing_in bytes start n) (λ x. x ≤ suc n) (λ _. omega arith) (λ _. omega (arith, standing_most bytes start n))
+pub standing_most : (r : List ℕ) (n : ℕ) → standing_in r n ≤ n
+standing_most r zero = omega arith
+standing_most r (suc n) =
+    cond_both (stands r n) (suc n) (standing_in r n) (λ x. x ≤ suc n) (λ _. omega arith) (λ _. omega (arith, standing_most r n))
 
--- a page that lies within the bytes is 2,048 bytes long
-page_long : (bytes : List ℕ) (start p : ℕ) → page_start start p + 2050 ≤ length bytes → length (page_in bytes start p) ≡ 2048
-page_long bytes start p h = simp (length-take, length-drop) (omega arith)
+-- a page that lies within the record of its block is 2,048 bytes long
+page_long : (r : List ℕ) (p : ℕ) → page_start p + 2050 ≤ length r → length (page_in r p) ≡ 2048
+page_long r p h = simp (length-drop, length-take, length-drop) (omega arith)
 
-block_sound : (bytes : List ℕ) (start depth : ℕ) → start + 4 + 2050 * depth ≤ length bytes → SoundBlock depth (block_in bytes start depth)
-block_sound bytes start depth h =
-    let n = standing_in bytes start depth in
-    let most = standing_most bytes start depth in
-    let e = length-map-range_with_len (page_in bytes start) 0 n in
+block_sound : (r : List ℕ) (depth : ℕ) → 4 + 2050 * depth ≤ length r → SoundBlock depth (block_in r depth)
+block_sound r depth h =
+    let n = standing_in r depth in
+    let most = standing_most r depth in
+    let e = length-map-range_with_len (page_in r) 0 n in
     record {
       standing = omega arith;
       long = λ p l. let u : p < n = omega arith in
-          ap length (get_or-map-range_with_len (page_in bytes start) 0 n p p [] u (omega arith)) ∙ page_long bytes start p (omega arith);
+          ap length (get_or-map-range_with_len (page_in r) 0 n p p [] u (omega arith)) ∙ page_long r p (omega arith);
       lives = omega arith;
     }
 
@@ -53,6 +53,9 @@ block_ends s i h = omega (arith, mul-le (i + 1) (block_size s) (block_count s) (
 
 pub block_within : (s : Shape) (bytes : List ℕ) (i : ℕ) → image_sizes_fit s bytes ≡ true → i < block_count s → block_start s i + block_size s ≤ length bytes
 block_within s bytes i e h = let sizes = image_sizes_of s bytes e in omega (arith, block_ends s i h)
+
+pub record_long : (s : Shape) (bytes : List ℕ) (i : ℕ) → image_sizes_fit s bytes ≡ true → i < block_count s → length (record_at s bytes i) ≡ block_size s
+record_long s bytes i e h = let within = block_within s bytes i e h in simp (length-take, length-drop) (omega arith)
 
 -- ---- what the shape of an image tells
 -- the bytes are an image whose header names the shape s
@@ -78,7 +81,7 @@ no_bank : (b k : ℕ) → (nat_lt b 0 && nat_lt k 0) ≡ false
 no_bank b k = grind (arith, nat_tests)
 
 pub empty_stored : (bytes : List ℕ) → stored no_shape bytes ≡ no_banks
-empty_stored bytes = λ t. record { banks = 0; blocks = 0; depth = 0; at = λ b k. cond-false (nat_lt b 0 && nat_lt k 0) (block_in bytes (block_start no_shape (b * 0 + k)) 0) no_block (no_bank b k) t }
+empty_stored bytes = λ t. record { banks = 0; blocks = 0; depth = 0; at = λ b k. cond-false (nat_lt b 0 && nat_lt k 0) (block_in (record_at no_shape bytes (b * 0 + k)) 0) no_block (no_bank b k) t }
 
 -- a flash shown by an image whose shape is the one that opening finds
 stored_bounds : (s : Shape) (bytes : List ℕ) → s ≡ named_shape bytes → Bounds (stored s bytes)
@@ -86,7 +89,7 @@ stored_bounds s bytes named =
     ⊎_elim
     (λ yes.
     let e = (named_by_image s bytes named yes).sizes in
-    numbered_bounds s _ (image_sizes_of s bytes e).ranges (λ i h. block_sound bytes (block_start s i) s.pages (omega (arith, block_within s bytes i e h))))
+    numbered_bounds s _ (image_sizes_of s bytes e).ranges (λ i h. block_sound (record_at s bytes i) s.pages (omega (arith, record_long s bytes i e h))))
     (λ no. subst Bounds (sym (ap (λ v. stored v bytes) (named ∙ cond-false (is_image bytes) (shape_in bytes) no_shape no) ∙ empty_stored bytes)) no_banks_bounds)
     (cases_Bool (is_image bytes))
 

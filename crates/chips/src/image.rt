@@ -1,13 +1,14 @@
 // A card image: a flash over one stretch of bytes, as it lies in a file.
-ghost use Rattle.std.specs.Prelude.{◌≡◌, ◌+◌, ◌≤◌, false, length, if◌then◌else◌, MatchOption};
+ghost use Rattle.std.specs.Prelude.{◌≡◌, true, false, if◌then◌else◌, MatchOption};
 ghost use Rattle.flash.specs.Memory.{in_shape};
-ghost use Rattle.chips.specs.ImageLayout.{FoundAt, named_shape};
+ghost use Rattle.chips.specs.ImageLayout.{FoundAt, SeenAt, named_shape};
 
 use crate::checks::{check_program, check_read};
 use crate::image::check::image_shape;
-use crate::image::marks::{MARK, block_start, page_start, standing_in};
-use crate::image::records::{blank_pages, lives_in, write_page};
-use flash::{BlockAddress, Flash, QUARTER, Refusal, Shape};
+use crate::image::marks::{block_size, block_start};
+use crate::image::records::{BlockView, write_blank, write_page};
+use flash::{BlockAddress, Flash, NO_BANKS, Refusal, Shape};
+use std::ops::Range;
 
 mod check;
 mod format;
@@ -23,7 +24,7 @@ pub struct CardImage<'a> {
 }
 
 impl<'a> CardImage<'a> {
-    ghost use Rattle.chips.specs.ImageLayout.{block_size, is_image, lives_in, opened, shape_in, standing_in};
+    ghost use Rattle.chips.specs.ImageLayout.{is_image, opened, shape_in};
     ghost use Rattle.chips.specs.ImageMemory.{Reopens, bytes_of, memory_of_image};
     ghost use Rattle.chips.specs.Shapes.{no_shape};
 
@@ -34,34 +35,30 @@ impl<'a> CardImage<'a> {
         ensures shape { result.shape ≡ (if is_image bytes.old then shape_in bytes.old else no_shape) }
         ensures reopens { Reopens result }
     {
-        let shape = image_shape(bytes);
+        let shape = image_shape(bytes).unwrap_or(NO_BANKS);
         CardImage { shape, bytes }
     }
 
-    // Where the record of a block starts, or none where the image does not show the block.
-    fn start_of(&self, at: BlockAddress) -> Option<usize>
-        ensures { MatchOption result (in_shape self.now.shape at.bank at.block ≡ false) (FoundAt self.now.shape (bytes_of self.now) at.bank at.block) }
+    // Where the record of a block lies that the image shows.
+    fn place_of(&self, at: BlockAddress) -> Range<usize>
+        requires { in_shape self.now.shape at.bank at.block ≡ true }
+        ensures { FoundAt self.now.shape (bytes_of self.now) at.bank at.block result }
+    {
+        let start = block_start(self.shape, at.bank * self.shape.blocks + at.block);
+        start..start + block_size(self.shape)
+    }
+
+    // The block as it lies in the bytes, or none where the image does not show it.
+    fn block(&self, at: BlockAddress) -> Option<BlockView<'_>>
+        ensures { MatchOption result (in_shape self.now.shape at.bank at.block ≡ false) (λ block. SeenAt self.now.shape (bytes_of self.now) at.bank at.block block.bytes.now) }
     {
         if !self.shape.contains(at) {
             return None;
         }
-        Some(block_start(self.shape, at.bank * self.shape.blocks + at.block))
-    }
-
-    // How many pages stand in the block whose record starts there.
-    fn standing_from(&self, start: usize) -> usize
-        requires { start + block_size self.now.shape ≤ length (bytes_of self.now) }
-        ensures { result ≡ standing_in (bytes_of self.now) start self.now.shape.pages }
-    {
-        standing_in(self.bytes, start, self.shape.pages)
-    }
-
-    // How many lives the block has whose record starts there.
-    fn lives_from(&self, start: usize) -> u16
-        requires { start + 4 ≤ length (bytes_of self.now) }
-        ensures { result ≡ lives_in (bytes_of self.now) start }
-    {
-        lives_in(self.bytes, start)
+        let Range { start, end } = self.place_of(at);
+        Some(BlockView {
+            bytes: &self.bytes[start..end],
+        })
     }
 }
 
@@ -81,13 +78,11 @@ impl<'a> Flash for CardImage<'a> {
     }
 
     fn standing(&self, at: BlockAddress) -> Option<usize> {
-        let start = self.start_of(at)?;
-        Some(self.standing_from(start))
+        Some(self.block(at)?.standing())
     }
 
     fn lives(&self, at: BlockAddress) -> Option<u16> {
-        let start = self.start_of(at)?;
-        Some(self.lives_from(start))
+        Some(self.block(at)?.lives())
     }
 
     fn read(
@@ -97,11 +92,15 @@ impl<'a> Flash for CardImage<'a> {
         quarter: usize,
         buffer: &mut [u8],
     ) -> Result<(), Refusal> {
-        let start = self.start_of(at).ok_or(Refusal::Outside)?;
-        let standing = self.standing_from(start);
-        check_read(self.shape.pages, standing, page, quarter, buffer.len())?;
-        let first = page_start(start, page) + MARK + quarter * QUARTER;
-        buffer.copy_from_slice(&self.bytes[first..first + QUARTER]);
+        let block = self.block(at).ok_or(Refusal::Outside)?;
+        check_read(
+            self.shape.pages,
+            block.standing(),
+            page,
+            quarter,
+            buffer.len(),
+        )?;
+        buffer.copy_from_slice(block.quarter(page, quarter));
         Ok(())
     }
 
@@ -112,10 +111,10 @@ impl<'a> Flash for CardImage<'a> {
         ensures bytes { bytes_of self.new ≡ programmed_bytes self.old.shape (bytes_of self.old) at.bank at.block page bytes.now }
         ensures reopens { Reopens self.new }
     {
-        let start = self.start_of(at).ok_or(Refusal::Outside)?;
-        let standing = self.standing_from(start);
+        let standing = self.standing(at).ok_or(Refusal::Outside)?;
         check_program(self.shape.pages, standing, page, bytes.len())?;
-        write_page(self.bytes, page_start(start, page), bytes);
+        let Range { start, end } = self.place_of(at);
+        write_page(&mut self.bytes[start..end], page, bytes);
         Ok(())
     }
 
@@ -126,13 +125,12 @@ impl<'a> Flash for CardImage<'a> {
         ensures bytes { bytes_of self.new ≡ erased_bytes self.old.shape (bytes_of self.old) at.bank at.block }
         ensures reopens { Reopens self.new }
     {
-        let start = self.start_of(at).ok_or(Refusal::Outside)?;
-        let lives = self.lives_from(start);
+        let lives = self.lives(at).ok_or(Refusal::Outside)?;
         if lives == 0 {
             return Err(Refusal::Worn);
         }
-        let pages = self.shape.pages;
-        blank_pages(self.bytes, start, pages, lives - 1);
+        let Range { start, end } = self.place_of(at);
+        write_blank(&mut self.bytes[start..end], lives - 1);
         Ok(())
     }
 }

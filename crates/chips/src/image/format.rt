@@ -1,12 +1,13 @@
 // Formatting: a blank image is written over bytes that its owner lends.
 ghost use Rattle.std.specs.Prelude.{◌≡◌, true, if◌then◌else◌};
-ghost use Rattle.chips.specs.ImageBlank.{blank_flash, blank_image, block_head, header};
+ghost use Rattle.chips.specs.ImageBlank.{blank_flash, blank_image, header};
 ghost use Rattle.chips.specs.ImageLayout.{image_sizes_fit, opened};
 ghost use Rattle.chips.specs.Layout.{shape_fits};
 
 use super::CardImage;
 use crate::image::check::image_sizes_fit;
-use crate::image::marks::{BLOCK_HEAD, BLOCK_MARK, HEADER, HEADER_MARK, VERSION, block_start};
+use crate::image::marks::{HEADER, HEADER_MARK, block_size, block_start};
+use crate::image::records::write_blank;
 use flash::Shape;
 
 // The header of an image.
@@ -17,19 +18,11 @@ fn header(shape: Shape) -> [u8; HEADER]
     [
         HEADER_MARK[0],
         HEADER_MARK[1],
-        VERSION,
+        HEADER_MARK[2],
         shape.banks as u8,
         shape.blocks as u8,
         shape.pages as u8,
     ]
-}
-
-// The mark and the lives that the record of a block starts with.
-fn block_head(lives: u16) -> [u8; BLOCK_HEAD]
-    ensures { result ≡ block_head lives }
-{
-    let [low, high] = lives.to_le_bytes();
-    [BLOCK_MARK[0], BLOCK_MARK[1], low, high]
 }
 
 impl<'a> CardImage<'a> {
@@ -43,12 +36,12 @@ impl<'a> CardImage<'a> {
         if !image_sizes_fit(shape, bytes) {
             return false;
         }
-        bytes.fill(0xFF);
         bytes[..HEADER].copy_from_slice(&header(shape));
-        let head = block_head(lives);
+        let size = block_size(shape);
+        // An index, and no `chunks_exact_mut`: of what a loop writes through chunks that were lent, a proof knows nothing after it.
         for i in 0..shape.banks * shape.blocks {
             let start = block_start(shape, i);
-            bytes[start..start + BLOCK_HEAD].copy_from_slice(&head);
+            write_blank(&mut bytes[start..start + size], lives);
         }
         true
     }

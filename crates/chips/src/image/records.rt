@@ -1,32 +1,89 @@
-// The lives and the pages in the record of a block: how they are read and written.
-ghost use Rattle.std.specs.Prelude.{◌≡◌, ◌+◌, ◌*◌, ◌≤◌, length};
-ghost use Rattle.chips.specs.ImageLayout.{lives_in, with_blank_pages, with_page};
+// The record of a block: how it is read and written.
+ghost use Rattle.std.specs.Prelude.{◌≡◌, ℕ, ◌+◌, ◌*◌, ◌<◌, ◌≤◌, ◌++◌, length, take, drop, replicate};
+ghost use Rattle.chips.specs.ImageBlank.{block_head};
+ghost use Rattle.chips.specs.ImageLayout.{lives_in, page_in, record_fits, standing_in, with_page};
 
-use crate::image::marks::{BLOCK_HEAD, MARK, PAGE_RECORD, STANDING_MARK};
+use crate::image::marks::{BLANK_MARK, BLOCK_HEAD, BLOCK_MARK, MARK, PAGE_RECORD, STANDING_MARK};
+use flash::QUARTER;
 
-// The lives of a block, with the low byte first.
-pub(super) fn lives_in(bytes: &[u8], start: usize) -> u16
-    requires { start + 4 ≤ length bytes.now }
-    ensures { result ≡ lives_in bytes.now start }
-{
-    u16::from_le_bytes([bytes[start + 2], bytes[start + 3]])
+// A block as it lies in an image: its mark, its lives, and the records of its pages.
+#[derive(Clone, Copy)]
+pub(super) struct BlockView<'a> {
+    pub(super) bytes: &'a [u8],
+    // the mark and the lives are there
+    ghost headed: { 4 ≤ length bytes.now },
 }
 
-// Writes the bytes of a page and then its mark, so that a cut between the two leaves the page blank.
-pub(super) fn write_page(bytes: &mut [u8], n: usize, page: &[u8])
-    requires { (n + 2050 ≤ length bytes.old) × (length page.now ≡ 2048) }
-    ensures { bytes.new ≡ with_page bytes.old n page.now }
-{
-    bytes[n + MARK..n + PAGE_RECORD].copy_from_slice(page);
-    bytes[n..n + MARK].copy_from_slice(&STANDING_MARK);
+impl<'a> BlockView<'a> {
+    // The lives, with the low byte first.
+    pub(super) fn lives(&self) -> u16
+        ensures { result ≡ lives_in self.now.bytes.now }
+    {
+        u16::from_le_bytes([self.bytes[2], self.bytes[3]])
+    }
+
+    // How many of the pages stand: those up to the last that is marked as standing.
+    pub(super) fn standing(&self) -> usize
+        ensures { (n : ℕ) → length self.now.bytes.now ≡ 4 + 2050 * n → result ≡ standing_in self.now.bytes.now n }
+    {
+        let pages = &self.bytes[BLOCK_HEAD..];
+        let last = pages
+            .chunks(PAGE_RECORD)
+            .rposition(|page| page.starts_with(&STANDING_MARK));
+        last.map_or(0, |last| last + 1)
+    }
+
+    // Whether the block has its mark, and each page up to the last that stands is marked as standing, and the others as blank.
+    pub(super) fn fits(&self) -> bool
+        ensures { (n : ℕ) → length self.now.bytes.now ≡ 4 + 2050 * n → result ≡ record_fits self.now.bytes.now n }
+    {
+        let standing = self.standing();
+        let pages = &self.bytes[BLOCK_HEAD..];
+        self.bytes.starts_with(&BLOCK_MARK)
+            && pages.chunks_exact(PAGE_RECORD).enumerate().all(|(i, page)| {
+                let mark = if i < standing {
+                    STANDING_MARK
+                } else {
+                    BLANK_MARK
+                };
+                page.starts_with(&mark)
+            })
+    }
+
+    // One quarter of a page's data.
+    pub(super) fn quarter(&self, page: usize, quarter: usize) -> &'a [u8]
+        requires { (4 + page * 2050 + 2050 ≤ length self.now.bytes.now) × (quarter < 4) }
+        ensures value { result.now ≡ take 512 (drop (quarter * 512) (page_in self.now.bytes.now page)) }
+        ensures len { length result.now ≡ 512 }
+    {
+        let first = BLOCK_HEAD + page * PAGE_RECORD + MARK + quarter * QUARTER;
+        &self.bytes[first..first + QUARTER]
+    }
 }
 
-// Blanks the pages of a block, and writes its lives with the low byte first.
-pub(super) fn blank_pages(bytes: &mut [u8], start: usize, pages: usize, lives: u16)
-    requires { start + 4 + 2050 * pages ≤ length bytes.old }
-    ensures { bytes.new ≡ with_blank_pages bytes.old start pages lives }
+// Writes the data of a page and then its mark, so that a cut between the two leaves the page blank.
+pub(super) fn write_page(block: &mut [u8], page: usize, data: &[u8])
+    requires { (4 + page * 2050 + 2050 ≤ length block.old) × (length data.now ≡ 2048) }
+    ensures { block.new ≡ with_page block.old page data.now }
 {
-    let first = start + BLOCK_HEAD;
-    bytes[first..first + PAGE_RECORD * pages].fill(0xFF);
-    bytes[start + MARK..first].copy_from_slice(&lives.to_le_bytes());
+    let first = BLOCK_HEAD + page * PAGE_RECORD;
+    block[first + MARK..first + PAGE_RECORD].copy_from_slice(data);
+    block[first..first + MARK].copy_from_slice(&STANDING_MARK);
+}
+
+// The mark and the lives that the record of a block starts with.
+fn block_head(lives: u16) -> [u8; BLOCK_HEAD]
+    ensures { result ≡ block_head lives }
+{
+    let [low, high] = lives.to_le_bytes();
+    [BLOCK_MARK[0], BLOCK_MARK[1], low, high]
+}
+
+// Writes the record of a blank block.
+pub(super) fn write_blank(block: &mut [u8], lives: u16)
+    requires { 4 ≤ length block.old }
+    ensures { (n : ℕ) → length block.old ≡ 4 + n → block.new ≡ block_head lives ++ replicate n 0xFF }
+{
+    block[BLOCK_HEAD..].fill(0xFF);
+    block[..BLOCK_HEAD].copy_from_slice(&block_head(lives));
 }

@@ -1,8 +1,11 @@
-use Rattle.std.proofs.Common.{refl, sym}
-use Rattle.chips.proofs.ImageReopens.{reopens}
+use Rattle.std.proofs.Common.{◌≡◌, refl, rules, sym}
+use Rattle.chips.specs.ImageLayout.{named_shape}
+use Rattle.chips.proofs.ImageChanged.{reopens}
 use Rattle.chips.proofs.image.CardImage.open.Goals as goal
 
 pub returns : goal.returns
 returns c =
-    let same = reopens _ c.args.bytes.now c.image_shape-shape.ensures in
-    record { memory = sym same; bytes = refl; shape = c.image_shape-shape.ensures; reopens = same }
+    let bytes = c.args.bytes.now in
+    let shape : c.unwrap_or-shape.result ≡ named_shape bytes = search rules in
+    let same = reopens c.unwrap_or-shape.result bytes shape in
+    record { memory = sym same; bytes = refl; shape = shape; reopens = same }

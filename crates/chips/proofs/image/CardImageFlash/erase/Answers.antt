@@ -1,35 +1,50 @@
 use Rattle.std.proofs.Common.{◌-◌, refl, sym, ap, ◌∙◌, arith}
-use Rattle.flash.proofs.Calls.{not_refused}
-use Rattle.chips.specs.ImageLayout.{lives_in, named_shape, stored, with_blank_pages}
-use Rattle.chips.specs.ImageMemory.{bytes_of}
-use Rattle.chips.proofs.ImageCalls.{found_erases, named_erased, shown_erased}
-use Rattle.chips.proofs.ImageReopens.{image_reopens, reopens}
+use Rattle.flash.specs.Calls.{spot}
+use Rattle.flash.proofs.Calls.{erase_done, erase_worn, not_refused, refused}
+use Rattle.chips.specs.ImageBlank.{blank_block}
+use Rattle.chips.specs.ImageLayout.{named_shape, stored}
+use Rattle.chips.specs.ImageMemory.{memory_of_image}
+use Rattle.chips.proofs.ImageCalls.{lives_some, long_found, named_erased, next_erased, shown_left, stored_erased}
+use Rattle.chips.proofs.ImageChanged.{image_reopens, reopens_same}
 use Rattle.chips.proofs.image.CardImageFlash.erase.Goals as goal
 
-pub returns-in_err-start-clause-reopens : goal.returns-in_err-start-clause-reopens
-returns-in_err-start-clause-reopens c = image_reopens c.args.self.now
+pub returns-in_err-lives-clause-reopens : goal.returns-in_err-lives-clause-reopens
+returns-in_err-lives-clause-reopens c = image_reopens c.args.self.now
 
-pub returns-then-lives-eq0-clause-reopens : goal.returns-then-lives-eq0-clause-reopens
-returns-then-lives-eq0-clause-reopens c = image_reopens c.args.self.now
+pub returns-then-lives-eq0 : goal.returns-then-lives-eq0
+returns-then-lives-eq0 c =
+    let seen = spot (memory_of_image c.args.self.now) c.args.at.bank c.args.at.block in
+    let some = lives_some seen _ (sym c.lives.ensures ∙ c.in_ok-lives.ensures.ok_part) in
+    let worn = erase_worn seen some.0 (some.1 ∙ omega arith) in
+    record { answer = sym worn; after = sym (refused _ 5 _ _ worn (omega arith)); shape = refl; bytes = sym (refused _ 5 _ _ worn (omega arith)); reopens = image_reopens c.args.self.now }
+
+pub place_of-start-requires : goal.place_of-start-requires
+place_of-start-requires c =
+    (lives_some (spot (memory_of_image c.args.self.now) c.args.at.bank c.args.at.block) _ (sym c.lives.ensures ∙ c.in_ok-lives.ensures.ok_part)).0
 
 pub invariant_of-self : goal.invariant_of-self
 invariant_of-self c =
-    let found = rw c.in_ok-start.ensures.ok_part at c.start_of.ensures in
-    let before = bytes_of c.args.self.now in
-    let now = c.blank_pages.ensures ∙ ap (λ l. with_blank_pages before c.in_ok-start.start c.args.self.now.shape.pages (l - 1)) c.lives_from-lives.ensures in
-    record { named = named_erased found c.args.self.now.named ∙ sym (ap named_shape now) }
+    let s = c.args.self.now.shape in
+    let seen = spot (memory_of_image c.args.self.now) c.args.at.bank c.args.at.block in
+    let some = lives_some seen _ (sym c.lives.ensures ∙ c.in_ok-lives.ensures.ok_part) in
+    let found = c.place_of-start.ensures in
+    let left = sym some.1 ∙ shown_left found.shown in
+    let now = next_erased found.shown found c.write_blank.new.block (c.write_blank.ensures _ (long_found found.shown found) ∙ ap (λ l. blank_block s (l - 1)) left) in
+    record { named = named_erased found.shown c.args.self.now.named ∙ sym (ap named_shape now) }
 
 pub returns : goal.returns
 returns c =
-    let found = rw c.in_ok-start.ensures.ok_part at c.start_of.ensures in
     let s = c.args.self.now.shape in
-    let before = bytes_of c.args.self.now in
-    let done = found_erases found (omega arith) in
-    let now = c.blank_pages.ensures ∙ ap (λ l. with_blank_pages before c.in_ok-start.start s.pages (l - 1)) c.lives_from-lives.ensures in
+    let seen = spot (memory_of_image c.args.self.now) c.args.at.bank c.args.at.block in
+    let some = lives_some seen _ (sym c.lives.ensures ∙ c.in_ok-lives.ensures.ok_part) in
+    let found = c.place_of-start.ensures in
+    let left = sym some.1 ∙ shown_left found.shown in
+    let now = next_erased found.shown found c.write_blank.new.block (c.write_blank.ensures _ (long_found found.shown found) ∙ ap (λ l. blank_block s (l - 1)) left) in
+    let done = erase_done seen some.0 (omega (arith, some.1)) in
     record {
       answer = sym done;
-      after = ap (stored s) now ∙ (shown_erased found ∙ sym (not_refused _ _ _ done));
+      after = ap (stored s) now ∙ (stored_erased found.shown ∙ sym (not_refused _ _ _ done));
       shape = refl;
-      bytes = now ∙ (ap (λ n. with_blank_pages before n s.pages (lives_in before n - 1)) found.starts ∙ sym (not_refused _ _ _ done));
-      reopens = reopens s c.blank_pages.new.bytes (named_erased found c.args.self.now.named ∙ sym (ap named_shape now));
+      bytes = now ∙ sym (not_refused _ _ _ done);
+      reopens = reopens_same s now (named_erased found.shown c.args.self.now.named);
     }

@@ -1,28 +1,33 @@
-use Rattle.std.proofs.Common.{◌≡◌, ◌+◌, ◌-◌, ◌*◌, take, drop, refl, sym, ap, ◌∙◌, arith, rules}
+use Rattle.std.proofs.Common.{refl, sym, ap, ◌∙◌, arith, rules}
+use Rattle.flash.specs.Calls.{quarter_of}
 use Rattle.flash.specs.Numbers.{answer}
 use Rattle.flash.proofs.Calls.{not_refused}
+use Rattle.chips.specs.ImageLayout.{page_in, standing_in}
 use Rattle.chips.proofs.Checked.{err_refused}
-use Rattle.chips.proofs.ImageCalls.{found_quarter, found_shows}
+use Rattle.chips.proofs.ImageCalls.{shown_quarter, shown_shows}
 use Rattle.chips.proofs.image.CardImageFlash.read.Goals as goal
 
 pub returns-in_err-check_read : goal.returns-in_err-check_read
 returns-in_err-check_read c =
-    let found = rw c.in_ok-start.ensures.ok_part at c.start_of.ensures in
-    let same : c.from_residual-in_err-check_read.result ≡ c.check_read.result = grind arith in
-    let told = ap answer same ∙ c.check_read.ensures.answer _ c.args.buffer.now (found_shows found _ c.standing_from-standing.ensures) refl in
+    let seen = rw c.in_ok-block.ensures.ok_part at c.block.ensures in
+    let told = ap answer (search rules) ∙ c.check_read.ensures.answer _ c.args.buffer.now (shown_shows seen.shown _ seen.same _ (c.standing.ensures c.args.self.now.shape.pages seen.long)) refl in
     record { answer = told; buffer = err_refused c.from_residual-in_err-check_read.result _ _ _ (search rules) told }
+
+pub quarter-requires : goal.quarter-requires
+quarter-requires c =
+    let seen = rw c.in_ok-block.ensures.ok_part at c.block.ensures in
+    let passed = c.in_ok-check_read.ensures.passed in
+    (omega (arith, seen.long), omega arith)
 
 pub returns : goal.returns
 returns c =
-    let found = rw c.in_ok-start.ensures.ok_part at c.start_of.ensures in
-    let bytes = c.args.self.now.bytes.now in
-    let n = c.page_start.result + 2 + c.args.quarter * 512 in
-    let e : n + 512 - n ≡ 512 = omega arith in
+    let seen = rw c.in_ok-block.ensures.ok_part at c.block.ensures in
     let passed = c.in_ok-check_read.ensures.passed in
-    let done = c.in_ok-check_read.ensures.answer _ c.args.buffer.now (found_shows found _ c.standing_from-standing.ensures) refl in
+    let done = c.in_ok-check_read.ensures.answer _ c.args.buffer.now (shown_shows seen.shown _ seen.same _ (c.standing.ensures c.args.self.now.shape.pages seen.long)) refl in
     record {
       answer = done;
       buffer = c.copy_from_slice.ensures.after
-          ∙ ((λ t. take (e t) (drop (c.page_start.ensures t + 2 + c.args.quarter * 512) bytes))
-          ∙ (sym (found_quarter found c.args.page c.args.quarter (omega arith) (omega arith)) ∙ sym (not_refused _ _ _ (sym done))));
+          ∙ (c.quarter.ensures.value
+          ∙ (ap (λ r. quarter_of (page_in r c.args.page) c.args.quarter) seen.same
+          ∙ (sym (shown_quarter seen.shown c.args.page c.args.quarter (omega (arith, c.standing.ensures c.args.self.now.shape.pages seen.long ∙ ap (λ r. standing_in r c.args.self.now.shape.pages) seen.same))) ∙ sym (not_refused _ _ _ (sym done)))));
     }
