@@ -10,12 +10,12 @@ use Rattle.chips.specs.Bounded.{number_below}
 use Rattle.chips.specs.Checks.{Shows}
 use Rattle.chips.specs.ImageBlank.{blank_block}
 use Rattle.chips.specs.ImageBounded.{named_by_banks, record_long}
-use Rattle.chips.specs.ImageLayout.{FoundAt, Shown, block_in, block_size, lives_in, named_shape, page_in, put, record_at, standing_in, stored, with_page, with_record}
+use Rattle.chips.specs.ImageLayout.{FoundAt, Shown, block_in, block_size, lives_in, named_shape, page_in, put, block_record, standing_in, stored, with_page, with_record}
 use Rattle.chips.specs.Layout.{block_count}
 use Rattle.chips.proofs.ImageChanged.{named_now, stored_now}
 use Rattle.chips.proofs.Stretches.{put_mid_put}
 use Rattle.chips.proofs.Numbered.{numbered_spot}
-use Rattle.chips.proofs.Records.{block_blank, block_written, length-blank, length_written, record_blank, record_written}
+use Rattle.chips.proofs.ImageRecords.{block_blank, block_written, length-blank, length_written, fits_blank, fits_written}
 
 -- what the answer to a question tells of the block
 pub standing_some : (v : Spot) (n : ℕ) → standing_at v ≡ Some n → Shows v v.depth n
@@ -32,7 +32,7 @@ module _ {s : Shape} {bytes : List ℕ} {b k : ℕ} (shown : Shown s bytes b k) 
 
   -- the record of the block
   abbrev pub held : List ℕ
-  held = record_at s bytes number
+  held = block_record s bytes number
 
   there : number < block_count s
   there = number_below b k s.banks s.blocks shown.bank shown.block
@@ -58,7 +58,7 @@ module _ {s : Shape} {bytes : List ℕ} {b k : ℕ} (shown : Shown s bytes b k) 
   seen = record { here = true; depth = s.pages; block = block_in held s.pages }
 
   shown_spot : spot (stored s bytes) b k ≡ seen
-  shown_spot = numbered_spot s (λ i. block_in (record_at s bytes i) s.pages) b k number shown.bank shown.block refl
+  shown_spot = numbered_spot s (λ i. block_in (block_record s bytes i) s.pages) b k number shown.bank shown.block refl
 
   abbrev count : ℕ
   count = standing_in held s.pages
@@ -103,7 +103,7 @@ module _ {s : Shape} {bytes : List ℕ} {b k : ℕ} (shown : Shown s bytes b k) 
     pub named_programmed : s ≡ named_shape bytes → s ≡ named_shape (with_record s bytes number programmed)
     named_programmed named =
         named_now s bytes programmed number shown.sizes there long_programmed (named_by_banks s bytes named (omega (arith, shown.bank)))
-        (record_written held page s.pages p long_held low long (sym next))
+        (fits_written held page s.pages p long_held low long (sym next))
 
   -- ---- erase
   pub shown_left : (spot (stored s bytes) b k).block.lives ≡ lives_in held
@@ -126,4 +126,4 @@ module _ {s : Shape} {bytes : List ℕ} {b k : ℕ} (shown : Shown s bytes b k) 
   pub named_erased : s ≡ named_shape bytes → s ≡ named_shape (with_record s bytes number erased)
   named_erased named =
       named_now s bytes erased number shown.sizes there (length-blank s (lives_in held - 1)) (named_by_banks s bytes named (omega (arith, shown.bank)))
-      (λ _. record_blank s (lives_in held - 1))
+      (λ _. fits_blank s (lives_in held - 1))

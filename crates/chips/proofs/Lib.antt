@@ -1,11 +1,11 @@
+mod BlankImage
 mod Blocks
 mod Calls
 mod Chains
 mod Checked
-mod Formatted
 mod ImageCalls
 mod ImageChanged
+mod ImageRecords
 mod Numbered
 mod Pages
-mod Records
 mod Stretches

@@ -8,7 +8,7 @@ use Rattle.std.proofs.lemmas.Bool.{and_parts, cases_Bool, cond_both, cond-false,
 use Rattle.std.proofs.lemmas.Bool.Decides.{nat_tests}
 use Rattle.flash.specs.Memory.{Bounds, SoundBlock, no_banks, no_banks_bounds, no_block}
 use Rattle.flash.specs.declared.Shape.{Shape}
-use Rattle.chips.specs.ImageLayout.{block_in, block_size, block_start, header_mark, image_length, image_sizes_fit, is_image, named_shape, page_in, page_start, record_at, shape_in, standing_in, stands, stored}
+use Rattle.chips.specs.ImageLayout.{block_in, block_size, block_start, header_mark, image_length, image_sizes_fit, is_image, named_shape, page_in, page_start, block_record, shape_in, standing_in, stands, stored}
 use Rattle.chips.specs.ImageMemory.{bytes_of, memory_of_image}
 use Rattle.chips.specs.Numbered.{numbered_bounds}
 use Rattle.chips.specs.Layout.{block_count, shape_fits}
@@ -54,7 +54,7 @@ block_ends s i h = omega (arith, mul-le (i + 1) (block_size s) (block_count s) (
 pub block_within : (s : Shape) (bytes : List ℕ) (i : ℕ) → image_sizes_fit s bytes ≡ true → i < block_count s → block_start s i + block_size s ≤ length bytes
 block_within s bytes i e h = let sizes = image_sizes_of s bytes e in omega (arith, block_ends s i h)
 
-pub record_long : (s : Shape) (bytes : List ℕ) (i : ℕ) → image_sizes_fit s bytes ≡ true → i < block_count s → length (record_at s bytes i) ≡ block_size s
+pub record_long : (s : Shape) (bytes : List ℕ) (i : ℕ) → image_sizes_fit s bytes ≡ true → i < block_count s → length (block_record s bytes i) ≡ block_size s
 record_long s bytes i e h = let within = block_within s bytes i e h in simp (length-take, length-drop) (omega arith)
 
 -- ---- what the shape of an image tells
@@ -81,7 +81,7 @@ no_bank : (b k : ℕ) → (nat_lt b 0 && nat_lt k 0) ≡ false
 no_bank b k = grind (arith, nat_tests)
 
 pub empty_stored : (bytes : List ℕ) → stored no_shape bytes ≡ no_banks
-empty_stored bytes = λ t. record { banks = 0; blocks = 0; depth = 0; at = λ b k. cond-false (nat_lt b 0 && nat_lt k 0) (block_in (record_at no_shape bytes (b * 0 + k)) 0) no_block (no_bank b k) t }
+empty_stored bytes = λ t. record { banks = 0; blocks = 0; depth = 0; at = λ b k. cond-false (nat_lt b 0 && nat_lt k 0) (block_in (block_record no_shape bytes (b * 0 + k)) 0) no_block (no_bank b k) t }
 
 -- a flash shown by an image whose shape is the one that opening finds
 stored_bounds : (s : Shape) (bytes : List ℕ) → s ≡ named_shape bytes → Bounds (stored s bytes)
@@ -89,7 +89,7 @@ stored_bounds s bytes named =
     ⊎_elim
     (λ yes.
     let e = (named_by_image s bytes named yes).sizes in
-    numbered_bounds s _ (image_sizes_of s bytes e).ranges (λ i h. block_sound (record_at s bytes i) s.pages (omega (arith, record_long s bytes i e h))))
+    numbered_bounds s _ (image_sizes_of s bytes e).ranges (λ i h. block_sound (block_record s bytes i) s.pages (omega (arith, record_long s bytes i e h))))
     (λ no. subst Bounds (sym (ap (λ v. stored v bytes) (named ∙ cond-false (is_image bytes) (shape_in bytes) no_shape no) ∙ empty_stored bytes)) no_banks_bounds)
     (cases_Bool (is_image bytes))
 

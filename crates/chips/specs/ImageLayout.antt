@@ -25,8 +25,8 @@ abbrev pub block_start : Shape → ℕ → ℕ
 block_start s i = 6 + i * block_size s
 
 -- the record of that block
-abbrev pub record_at : Shape → List ℕ → ℕ → List ℕ
-record_at s bytes i = take (block_size s) (drop (block_start s i) bytes)
+abbrev pub block_record : Shape → List ℕ → ℕ → List ℕ
+block_record s bytes i = take (block_size s) (drop (block_start s i) bytes)
 
 -- where the record of the page p starts, in the record of its block
 abbrev pub page_start : ℕ → ℕ
@@ -77,7 +77,7 @@ block_in r depth = record {
 
 -- the flash of these bytes, with that shape
 abbrev pub stored : Shape → List ℕ → Memory
-stored s bytes = numbered s (λ i. block_in (record_at s bytes i) s.pages)
+stored s bytes = numbered s (λ i. block_in (block_record s bytes i) s.pages)
 
 -- ---- which bytes are an image
 -- the mark of an image, and the version of its format
@@ -93,18 +93,18 @@ abbrev pub mark_fits : List ℕ → ℕ → ℕ → Bool
 mark_fits r n p = is_marked (page_record r p) (cond (nat_lt p n) standing_mark blank_mark)
 
 -- the first m pages have such marks
-abbrev pub marks_fit : List ℕ → ℕ → ℕ → Bool
-marks_fit r n zero = true
-marks_fit r n (suc m) = marks_fit r n m && mark_fits r n m
+abbrev pub pages_fit : List ℕ → ℕ → ℕ → Bool
+pages_fit r n zero = true
+pages_fit r n (suc m) = pages_fit r n m && mark_fits r n m
 
 -- a record has the mark of a block, and of its pages none that stands follows a blank one
-abbrev pub record_fits : List ℕ → ℕ → Bool
-record_fits r depth = is_marked r block_mark && marks_fit r (standing_in r depth) depth
+abbrev pub block_fits : List ℕ → ℕ → Bool
+block_fits r depth = is_marked r block_mark && pages_fit r (standing_in r depth) depth
 
 -- the records of the first n blocks fit
-abbrev pub records_fit : Shape → List ℕ → ℕ → Bool
-records_fit s bytes zero = true
-records_fit s bytes (suc n) = records_fit s bytes n && record_fits (record_at s bytes n) s.pages
+abbrev pub blocks_fit : Shape → List ℕ → ℕ → Bool
+blocks_fit s bytes zero = true
+blocks_fit s bytes (suc n) = blocks_fit s bytes n && block_fits (block_record s bytes n) s.pages
 
 -- a shape that a flash can have, and just the bytes that it needs
 abbrev pub image_sizes_fit : Shape → List ℕ → Bool
@@ -112,7 +112,7 @@ image_sizes_fit s bytes = shape_fits s && length bytes == image_length s
 
 -- the bytes are an image
 abbrev pub is_image : List ℕ → Bool
-is_image bytes = header_mark bytes && (image_sizes_fit (shape_in bytes) bytes && records_fit (shape_in bytes) bytes (block_count (shape_in bytes)))
+is_image bytes = header_mark bytes && (image_sizes_fit (shape_in bytes) bytes && blocks_fit (shape_in bytes) bytes (block_count (shape_in bytes)))
 
 -- the shape that the header names where the bytes are an image, and otherwise no banks
 abbrev pub named_shape : List ℕ → Shape
@@ -139,12 +139,12 @@ with_record s bytes i r = put (block_start s i) r bytes
 abbrev pub programmed_bytes : Shape → List ℕ → ℕ → ℕ → ℕ → List ℕ → List ℕ
 programmed_bytes s bytes b k p page =
     let i = b * s.blocks + k in
-    unless_refused (program_number (spot (stored s bytes) b k) p page) (with_record s bytes i (with_page (record_at s bytes i) p page)) bytes
+    unless_refused (program_number (spot (stored s bytes) b k) p page) (with_record s bytes i (with_page (block_record s bytes i) p page)) bytes
 
 abbrev pub erased_bytes : Shape → List ℕ → ℕ → ℕ → List ℕ
 erased_bytes s bytes b k =
     let i = b * s.blocks + k in
-    unless_refused (erase_number (spot (stored s bytes) b k)) (with_record s bytes i (blank_block s (lives_in (record_at s bytes i) - 1))) bytes
+    unless_refused (erase_number (spot (stored s bytes) b k)) (with_record s bytes i (blank_block s (lives_in (block_record s bytes i) - 1))) bytes
 
 -- ---- what the private functions tell
 -- the image shows the block k of the bank b
@@ -163,5 +163,5 @@ pub record FoundAt (s : Shape) (bytes : List ℕ) (b k : ℕ) (place : Range ℕ
 -- and this is its record
 pub record SeenAt (s : Shape) (bytes : List ℕ) (b k : ℕ) (r : List ℕ) : Type 0 where
   pub shown : Shown s bytes b k
-  pub same : r ≡ record_at s bytes (b * s.blocks + k)
+  pub same : r ≡ block_record s bytes (b * s.blocks + k)
   pub long : length r ≡ block_size s

@@ -62,6 +62,7 @@ impl<'a> CardImage<'a> {
     }
 }
 
+#[tactic(auto, using(crate::proofs::ImageChanged::image_reopens))]
 impl<'a> Flash for CardImage<'a> {
     ghost use Rattle.flash.specs.Calls.{erase_number, erased, program_number, programmed, spot};
     ghost use Rattle.flash.specs.Numbers.{answer};

@@ -2,7 +2,7 @@
 ghost use Rattle.std.specs.Prelude.{◌≡◌, ◌≤◌, Some, None, length, if◌then◌else◌};
 ghost use Rattle.chips.specs.ImageLayout.{image_sizes_fit, is_image, shape_in};
 
-use crate::image::marks::{HEADER, HEADER_MARK, block_size, block_start};
+use crate::image::marks::{HEADER_MARK, block_size, block_start};
 use crate::image::records::BlockView;
 use crate::shapes::shape_fits;
 use flash::Shape;
@@ -18,18 +18,20 @@ pub(super) fn image_sizes_fit(shape: Shape, bytes: &[u8]) -> bool
 pub(super) fn image_shape(bytes: &[u8]) -> Option<Shape>
     ensures { result ≡ (if is_image bytes.now then Some (shape_in bytes.now) else None) }
 {
-    if bytes.len() < HEADER || !bytes.starts_with(&HEADER_MARK) {
+    if !bytes.starts_with(&HEADER_MARK) {
         return None;
     }
+    let [_, _, _, banks, blocks, pages, records @ ..] = bytes else {
+        return None;
+    };
     let shape = Shape {
-        banks: usize::from(bytes[3]),
-        blocks: usize::from(bytes[4]),
-        pages: usize::from(bytes[5]),
+        banks: usize::from(*banks),
+        blocks: usize::from(*blocks),
+        pages: usize::from(*pages),
     };
     if !image_sizes_fit(shape, bytes) {
         return None;
     }
-    let records = &bytes[HEADER..];
     let fit = records.chunks_exact(block_size(shape)).all(
         |bytes|
             requires { 4 ≤ length bytes.now }

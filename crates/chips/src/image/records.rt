@@ -1,7 +1,7 @@
 // The record of a block: how it is read and written.
 ghost use Rattle.std.specs.Prelude.{◌≡◌, ℕ, ◌+◌, ◌*◌, ◌<◌, ◌≤◌, ◌++◌, length, take, drop, replicate};
 ghost use Rattle.chips.specs.ImageBlank.{block_head};
-ghost use Rattle.chips.specs.ImageLayout.{lives_in, page_in, record_fits, standing_in, with_page};
+ghost use Rattle.chips.specs.ImageLayout.{lives_in, page_in, block_fits, standing_in, with_page};
 
 use crate::image::marks::{BLANK_MARK, BLOCK_HEAD, BLOCK_MARK, MARK, PAGE_RECORD, STANDING_MARK};
 use flash::QUARTER;
@@ -35,7 +35,7 @@ impl<'a> BlockView<'a> {
 
     // Whether the block has its mark, and each page up to the last that stands is marked as standing, and the others as blank.
     pub(super) fn fits(&self) -> bool
-        ensures { (n : ℕ) → length self.now.bytes.now ≡ 4 + 2050 * n → result ≡ record_fits self.now.bytes.now n }
+        ensures { (n : ℕ) → length self.now.bytes.now ≡ 4 + 2050 * n → result ≡ block_fits self.now.bytes.now n }
     {
         let standing = self.standing();
         let pages = &self.bytes[BLOCK_HEAD..];
@@ -71,19 +71,12 @@ pub(super) fn write_page(block: &mut [u8], page: usize, data: &[u8])
     block[first..first + MARK].copy_from_slice(&STANDING_MARK);
 }
 
-// The mark and the lives that the record of a block starts with.
-fn block_head(lives: u16) -> [u8; BLOCK_HEAD]
-    ensures { result ≡ block_head lives }
-{
-    let [low, high] = lives.to_le_bytes();
-    [BLOCK_MARK[0], BLOCK_MARK[1], low, high]
-}
-
 // Writes the record of a blank block.
 pub(super) fn write_blank(block: &mut [u8], lives: u16)
     requires { 4 ≤ length block.old }
     ensures { (n : ℕ) → length block.old ≡ 4 + n → block.new ≡ block_head lives ++ replicate n 0xFF }
 {
     block[BLOCK_HEAD..].fill(0xFF);
-    block[..BLOCK_HEAD].copy_from_slice(&block_head(lives));
+    block[MARK..BLOCK_HEAD].copy_from_slice(&lives.to_le_bytes());
+    block[..MARK].copy_from_slice(&BLOCK_MARK);
 }

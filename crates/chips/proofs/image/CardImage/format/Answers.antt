@@ -6,7 +6,7 @@ use Rattle.chips.specs.ImageBounded.{block_within, image_sizes_of}
 use Rattle.chips.specs.ImageLayout.{block_start, image_sizes_fit, opened}
 use Rattle.chips.specs.Layout.{shape_fits}
 use Rattle.chips.specs.Shapes.{few_in_all}
-use Rattle.chips.proofs.Formatted.{begun_all, begun_more, blank_opens}
+use Rattle.chips.proofs.BlankImage.{begun_all, begun_more, blank_opens}
 use Rattle.chips.proofs.image.CardImage.format.Goals as goal
 
 pub block_size-size-requires : goal.block_size-size-requires

@@ -1,5 +1,5 @@
 use Rattle.std.proofs.Common.{◌≡◌}
-use Rattle.chips.proofs.Formatted.{begun}
+use Rattle.chips.proofs.BlankImage.{begun}
 use Rattle.chips.proofs.image.CardImage.format.Given as goal
 
 -- the header and the blocks before i are written

@@ -1,15 +1,12 @@
-use Rattle.std.proofs.Common.{◌-◌, refl, sym, ap, ◌∙◌, arith}
+use Rattle.std.proofs.Common.{◌-◌, refl, sym, ap, ◌∙◌, arith, rules}
 use Rattle.flash.specs.Calls.{spot}
 use Rattle.flash.proofs.Calls.{erase_done, erase_worn, not_refused, refused}
 use Rattle.chips.specs.ImageBlank.{blank_block}
 use Rattle.chips.specs.ImageLayout.{named_shape, stored}
 use Rattle.chips.specs.ImageMemory.{memory_of_image}
 use Rattle.chips.proofs.ImageCalls.{lives_some, long_found, named_erased, next_erased, shown_left, stored_erased}
-use Rattle.chips.proofs.ImageChanged.{image_reopens, reopens_same}
+use Rattle.chips.proofs.ImageChanged.{image_reopens}
 use Rattle.chips.proofs.image.CardImageFlash.erase.Goals as goal
-
-pub returns-in_err-lives-clause-reopens : goal.returns-in_err-lives-clause-reopens
-returns-in_err-lives-clause-reopens c = image_reopens c.args.self.now
 
 pub returns-then-lives-eq0 : goal.returns-then-lives-eq0
 returns-then-lives-eq0 c =
@@ -46,5 +43,5 @@ returns c =
       after = ap (stored s) now ∙ (stored_erased found.shown ∙ sym (not_refused _ _ _ done));
       shape = refl;
       bytes = now ∙ sym (not_refused _ _ _ done);
-      reopens = reopens_same s now (named_erased found.shown c.args.self.now.named);
+      reopens = search (rules, image_reopens);
     }

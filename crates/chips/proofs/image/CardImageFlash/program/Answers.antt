@@ -6,11 +6,8 @@ use Rattle.chips.specs.ImageLayout.{named_shape, standing_in, stored}
 use Rattle.chips.specs.ImageMemory.{memory_of_image}
 use Rattle.chips.proofs.Checked.{err_refused}
 use Rattle.chips.proofs.ImageCalls.{held, named_programmed, next_programmed, shown_count, standing_some, stored_programmed}
-use Rattle.chips.proofs.ImageChanged.{image_reopens, reopens_same}
+use Rattle.chips.proofs.ImageChanged.{image_reopens}
 use Rattle.chips.proofs.image.CardImageFlash.program.Goals as goal
-
-pub returns-in_err-standing-clause-reopens : goal.returns-in_err-standing-clause-reopens
-returns-in_err-standing-clause-reopens c = image_reopens c.args.self.now
 
 pub returns-in_err-check_program : goal.returns-in_err-check_program
 returns-in_err-check_program c =
@@ -52,5 +49,5 @@ returns c =
       after = ap (stored s) now ∙ (stored_programmed found.shown page written passed.0 passed.1.1 next ∙ sym (not_refused _ _ _ (sym done)));
       shape = refl;
       bytes = now ∙ sym (not_refused _ _ _ (sym done));
-      reopens = reopens_same s now (named_programmed found.shown page written passed.0 passed.1.1 next c.args.self.now.named);
+      reopens = search (rules, image_reopens);
     }

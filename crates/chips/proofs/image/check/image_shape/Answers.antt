@@ -2,10 +2,10 @@ use Rattle.std.proofs.Common.{◌≡◌, ◌*◌, length, true, false, cond, ◌
 use Rattle.std.proofs.lemmas.Iterator.{cases_from_all}
 use Rattle.std.proofs.lemmas.List.{length-drop, take_rest}
 use Rattle.chips.specs.ImageBounded.{image_sizes_of}
-use Rattle.chips.specs.ImageLayout.{block_size, header_mark, image_sizes_fit, records_fit, shape_in}
+use Rattle.chips.specs.ImageLayout.{block_size, header_mark, image_sizes_fit, blocks_fit, shape_in}
 use Rattle.chips.specs.Layout.{block_count}
 use Rattle.chips.proofs.Chains.{YieldsList-from_chunks}
-use Rattle.chips.proofs.ImageChanged.{Fits, records_in_order}
+use Rattle.chips.proofs.ImageChanged.{Fits, blocks_in_order}
 use Rattle.chips.proofs.image.check.image_shape.Goals as goal
 
 pub returns : goal.returns
@@ -18,7 +18,7 @@ returns c =
     let told = cases_from_all _ _ c.all-fit.result (Fits s bytes sizes true) (Fits s bytes sizes false) c.all-fit.ensures.ran
     (YieldsList-from_chunks (block_size s) (omega arith) (drop 6 bytes) (block_count s) (c.chunks_exact.ensures.size ∙ size) (c.chunks_exact.ensures.rest ∙ take_rest bytes 6) blocks)
     (λ x q k. search (rules, tests)) (λ x q k. search (rules, tests)) in
-    let fits : c.all-fit.result ≡ records_fit s bytes (block_count s) = records_in_order s bytes sizes c.all-fit.result told in
+    let fits : c.all-fit.result ≡ blocks_fit s bytes (block_count s) = blocks_in_order s bytes sizes c.all-fit.result told in
     let header : header_mark bytes ≡ true = search rules in
     let named : c.then_some.result ≡ cond c.all-fit.result (Some s) None = search rules in
     named ∙ sym (λ t. cond (header t && (sizes t && sym fits t)) (Some s) None)

@@ -1,5 +1,5 @@
 use Rattle.std.proofs.Common.{◌≡◌, ◌+◌, ◌-◌, ◌*◌, take, drop, sym, ap, ◌∙◌, arith}
-use Rattle.chips.proofs.Records.{quarter_is}
+use Rattle.chips.proofs.ImageRecords.{quarter_is}
 use Rattle.chips.proofs.image.records.BlockView.quarter.Goals as goal
 
 pub returns-clause-value : goal.returns-clause-value

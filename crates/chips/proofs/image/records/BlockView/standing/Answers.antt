@@ -3,7 +3,7 @@ use Rattle.std.proofs.lemmas.List.{length-drop, take_rest}
 use Rattle.std.specs.Slice.Iter.{chunk_count}
 use Rattle.chips.specs.ImageLayout.{is_marked, standing_mark}
 use Rattle.chips.proofs.Chains.{last_from_rposition}
-use Rattle.chips.proofs.Records.{standing_from_last}
+use Rattle.chips.proofs.ImageRecords.{standing_from_last}
 use Rattle.chips.proofs.image.records.BlockView.standing.Goals as goal
 
 pub returns : goal.returns

@@ -9,7 +9,7 @@ use Rattle.std.proofs.lemmas.List.FromFn.{map-range_with_len_more}
 use Rattle.flash.specs.Calls.{written}
 use Rattle.flash.specs.declared.Shape.{Shape}
 use Rattle.chips.specs.ImageBlank.{blank_block}
-use Rattle.chips.specs.ImageLayout.{blank_mark, block_in, block_mark, block_size, is_marked, lives_in, mark_fits, marks_fit, page_in, page_record, page_start, record_fits, standing_in, standing_mark, stands, with_page}
+use Rattle.chips.specs.ImageLayout.{blank_mark, block_in, block_mark, block_size, is_marked, lives_in, mark_fits, pages_fit, page_in, page_record, page_start, block_fits, standing_in, standing_mark, stands, with_page}
 use Rattle.chips.proofs.Chains.{enumerate-map-range, list_all-map-range}
 use Rattle.chips.proofs.Pages.{same_counted}
 use Rattle.chips.proofs.Stretches.{each_below, length-put, put_apart, put_outside, put_part}
@@ -43,8 +43,8 @@ module _ (r : List ℕ) where
       (cases_eq q n))
       (cases_Bool (stands r n))
 
-  pub marks_each : (n m : ℕ) → Decides (marks_fit r n m) ((p : ℕ) → p < m → mark_fits r n p ≡ true)
-  marks_each n m = each_below (marks_fit r n) (mark_fits r n) refl (λ _. refl) m
+  pub pages_each : (n m : ℕ) → Decides (pages_fit r n m) ((p : ℕ) → p < m → mark_fits r n p ≡ true)
+  pages_each n m = each_below (pages_fit r n) (mark_fits r n) refl (λ _. refl) m
 
   -- a page's record, by the places in the records of the pages alone
   page_is : (p : ℕ) → take 2050 (drop (p * 2050) (drop 4 r)) ≡ page_record r p
@@ -72,9 +72,9 @@ module _ (r : List ℕ) where
       ∙ sym (last_stands n i h.0 (ap (λ x. is_marked x standing_mark) (sym (page_is i)) ∙ h.1) (λ q a b. ap (λ x. is_marked x standing_mark) (sym (page_is q)) ∙ h.2 q a b))
 
   -- what a test of each numbered page finds
-  pub marks_in_order : (n m : ℕ)
-      → list_all (λ (p : ℕ × List ℕ). is_marked p.1 (cond (ltb p.0 n) standing_mark blank_mark)) (enumerate_from 0 (map (λ p. take 2050 (drop (p * 2050) (drop 4 r))) (range_with_len 0 m))) ≡ marks_fit r n m
-  marks_in_order n m =
+  pub pages_in_order : (n m : ℕ)
+      → list_all (λ (p : ℕ × List ℕ). is_marked p.1 (cond (ltb p.0 n) standing_mark blank_mark)) (enumerate_from 0 (map (λ p. take 2050 (drop (p * 2050) (drop 4 r))) (range_with_len 0 m))) ≡ pages_fit r n m
+  pages_in_order n m =
       let test : ℕ × List ℕ → Bool = λ p. is_marked p.1 (cond (ltb p.0 n) standing_mark blank_mark) in
       let each = list_all-map-range test (λ p. (p, take 2050 (drop (p * 2050) (drop 4 r)))) m 0 in
       ap (list_all test) (enumerate-map-range (λ p. take 2050 (drop (p * 2050) (drop 4 r))) m 0)
@@ -82,7 +82,7 @@ module _ (r : List ℕ) where
         λ e p l. ap (λ x. is_marked x (cond (ltb p n) standing_mark blank_mark)) (sym (page_is p)) ∙ each.0 e p (omega arith) (omega arith),
         λ h. each.1 (λ p a b. ap (λ x. is_marked x (cond (ltb p n) standing_mark blank_mark)) (page_is p) ∙ h p (omega arith)),
       )
-      (marks_each n m)
+      (pages_each n m)
 
 -- a number that is not the next one is below the next one where it is below this one
 ltb_next : (q p : ℕ) → q ≢ p → ltb q (p + 1) ≡ ltb q p
@@ -131,13 +131,13 @@ module _ (r page : List ℕ) (depth p : ℕ) (whole : length r ≡ 4 + 2050 * de
       let pages = ap (λ n. map (page_in now) (range_with_len 0 n)) standing_written ∙ (pages_written ∙ ap (λ n. map (page_in r) (range_with_len 0 n) ++ page ∷ []) (sym next)) in
       λ t. record { pages = pages t; lives = min (byte_same 2 (omega arith) t + byte_same 3 (omega arith) t * 256) 65535 }
 
-  pub record_written : record_fits r depth ≡ true → record_fits now depth ≡ true
-  record_written fits =
+  pub fits_written : block_fits r depth ≡ true → block_fits now depth ≡ true
+  fits_written fits =
       let was = and_parts (is_marked r block_mark) _ fits in
-      let marks = (marks_each r p depth).0 (ap (λ n. marks_fit r n depth) (sym next) ∙ was.1) in
+      let marks = (pages_each r p depth).0 (ap (λ n. pages_fit r n depth) (sym next) ∙ was.1) in
       and_from (is_marked now block_mark) _ (mark_same ∙ was.0)
-      (ap (λ n. marks_fit now n depth) standing_written
-      ∙ (marks_each now (p + 1) depth).1 (λ q l.
+      (ap (λ n. pages_fit now n depth) standing_written
+      ∙ (pages_each now (p + 1) depth).1 (λ q l.
       ⊎_elim
       (λ same.
       let low : ltb q (p + 1) ≡ true = lt-ltb q (p + 1) (omega (arith, same)) in
@@ -161,10 +161,10 @@ module _ (s : Shape) (lives : ℕ) where
   standing_blank : standing_in blank s.pages ≡ 0
   standing_blank = none_stand blank s.pages (λ q l. ap (λ x. is_marked x standing_mark) (page_blank q l))
 
-  pub record_blank : record_fits blank s.pages ≡ true
-  record_blank =
-      ap (λ n. marks_fit blank n s.pages) standing_blank
-      ∙ (marks_each blank 0 s.pages).1 (λ q l. λ t. is_marked (page_blank q l t) (cond (below_none q t) standing_mark blank_mark))
+  pub fits_blank : block_fits blank s.pages ≡ true
+  fits_blank =
+      ap (λ n. pages_fit blank n s.pages) standing_blank
+      ∙ (pages_each blank 0 s.pages).1 (λ q l. λ t. is_marked (page_blank q l t) (cond (below_none q t) standing_mark blank_mark))
 
   pub block_blank : lives < 65536 → block_in blank s.pages ≡ record { pages = []; lives = lives }
   block_blank h =

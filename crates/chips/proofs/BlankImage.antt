@@ -9,10 +9,10 @@ use Rattle.flash.specs.declared.Shape.{Shape}
 use Rattle.flash.proofs.Calls.{same_memory}
 use Rattle.chips.specs.Bounded.{number_below}
 use Rattle.chips.specs.ImageBlank.{blank_block, blank_blocks, blank_flash, blank_image, header}
-use Rattle.chips.specs.ImageLayout.{block_in, block_size, block_start, header_mark, image_length, image_sizes_fit, is_image, opened, record_at, record_fits, stored}
+use Rattle.chips.specs.ImageLayout.{block_in, block_size, block_start, header_mark, image_length, image_sizes_fit, is_image, opened, block_record, block_fits, stored}
 use Rattle.chips.specs.Layout.{block_count, shape_fits}
-use Rattle.chips.proofs.ImageChanged.{records_each}
-use Rattle.chips.proofs.Records.{block_blank, length-blank, record_blank}
+use Rattle.chips.proofs.ImageChanged.{blocks_each}
+use Rattle.chips.proofs.ImageRecords.{block_blank, length-blank, fits_blank}
 
 module _ (s : Shape) (lives : ℕ) where
   length-blocks : (n : ℕ) → length (blank_blocks s lives n) ≡ n * block_size s
@@ -65,7 +65,7 @@ module _ (s : Shape) (lives : ℕ) where
       ap (take z) (drop_at before block (i * z) (long ∙ ap (λ x. x * z) (sym e))) ∙ take_all z block (omega (arith, length-blank s lives)))
       (cases_lt i n)
 
-  record_image : (i : ℕ) → i < block_count s → record_at s image i ≡ blank_block s lives
+  record_image : (i : ℕ) → i < block_count s → block_record s image i ≡ blank_block s lives
   record_image i h =
       ap (take (block_size s)) (sym (drop-drop (i * block_size s) 6 image)) ∙ record_blocks (block_count s) i h
 
@@ -76,7 +76,7 @@ module _ (s : Shape) (lives : ℕ) where
   image_is fits =
       and_from (header_mark image) _ refl
       (and_from (image_sizes_fit s image) _ (sizes fits)
-      ((records_each s image (block_count s)).1 (λ i h. ap (λ r. record_fits r s.pages) (record_image i h) ∙ record_blank s lives)))
+      ((blocks_each s image (block_count s)).1 (λ i h. ap (λ r. block_fits r s.pages) (record_image i h) ∙ fits_blank s lives)))
 
   at_place : lives < 65536 → (b k : ℕ) → (stored s image).at b k ≡ (blank_flash s lives).at b k
   at_place h b k =
