@@ -1,27 +1,11 @@
-use Rattle.std.proofs.Common.{◌≡◌, ◌+◌, ◌-◌, ◌*◌, true, ◌++◌, length, take, drop, sym, ap, ◌∙◌, arith, rules}
+use Rattle.std.proofs.Common.{◌≡◌, ◌+◌, ◌-◌, ◌*◌, true, length, take, drop, sym, ap, ◌∙◌, arith, rules}
 use Rattle.std.proofs.lemmas.Bool.{and_parts, cond-true}
 use Rattle.std.proofs.lemmas.List.{length-drop, length-take}
-use Rattle.chips.specs.ImageBlank.{header}
 use Rattle.chips.specs.ImageBounded.{block_within, image_sizes_of}
-use Rattle.chips.specs.ImageLayout.{block_start, image_sizes_fit, opened}
+use Rattle.chips.specs.ImageLayout.{image_sizes_fit, opened}
 use Rattle.chips.specs.Layout.{shape_fits}
-use Rattle.chips.specs.Shapes.{few_in_all}
 use Rattle.chips.proofs.BlankImage.{begun_all, begun_more, blank_opens}
 use Rattle.chips.proofs.image.CardImage.format.Goals as goal
-
-pub block_size-size-requires : goal.block_size-size-requires
-block_size-size-requires c = (image_sizes_of c.args.shape c.args.bytes.now (search rules)).ranges.few_pages
-
-pub loop-i-init : goal.loop-i-init
-loop-i-init c =
-    let s = c.args.shape in
-    let bytes = c.args.bytes.now in
-    ap (λ h. h ++ drop 6 bytes) (c.copy_from_slice.ensures.after ∙ c.header.ensures) ∙ ap (λ i. header s ++ drop i bytes) {x = 6} {y = block_start s 0} (omega arith)
-
-pub block_start-start-requires : goal.block_start-start-requires
-block_start-start-requires c =
-    let ranges = (image_sizes_of c.args.shape c.args.bytes.now (search rules)).ranges in
-    (ranges.few_pages, omega (arith, few_in_all c.args.shape ranges))
 
 pub slice_bounds-write_blank-end : goal.slice_bounds-write_blank-end
 slice_bounds-write_blank-end c =

@@ -1,23 +1,12 @@
 use Rattle.std.proofs.Common.{◌-◌, refl, sym, ap, ◌∙◌, arith, rules}
 use Rattle.flash.specs.Calls.{spot}
-use Rattle.flash.proofs.Calls.{erase_done, erase_worn, not_refused, refused}
+use Rattle.flash.proofs.Calls.{erase_done, not_refused}
 use Rattle.chips.specs.ImageBlank.{blank_block}
 use Rattle.chips.specs.ImageLayout.{named_shape, stored}
 use Rattle.chips.specs.ImageMemory.{memory_of_image}
 use Rattle.chips.proofs.ImageCalls.{lives_some, long_found, named_erased, next_erased, shown_left, stored_erased}
 use Rattle.chips.proofs.ImageChanged.{image_reopens}
 use Rattle.chips.proofs.image.CardImageFlash.erase.Goals as goal
-
-pub returns-then-lives-eq0 : goal.returns-then-lives-eq0
-returns-then-lives-eq0 c =
-    let seen = spot (memory_of_image c.args.self.now) c.args.at.bank c.args.at.block in
-    let some = lives_some seen _ (sym c.lives.ensures ∙ c.in_ok-lives.ensures.ok_part) in
-    let worn = erase_worn seen some.0 (some.1 ∙ omega arith) in
-    record { answer = sym worn; after = sym (refused _ 5 _ _ worn (omega arith)); shape = refl; bytes = sym (refused _ 5 _ _ worn (omega arith)); reopens = image_reopens c.args.self.now }
-
-pub place_of-start-requires : goal.place_of-start-requires
-place_of-start-requires c =
-    (lives_some (spot (memory_of_image c.args.self.now) c.args.at.bank c.args.at.block) _ (sym c.lives.ensures ∙ c.in_ok-lives.ensures.ok_part)).0
 
 pub invariant_of-self : goal.invariant_of-self
 invariant_of-self c =

@@ -17,10 +17,6 @@ returns-in_err-check_program c =
     let r = c.from_residual-in_err-check_program.result in
     record { answer = told; after = err_refused r _ _ _ (search rules) told; shape = refl; bytes = err_refused r _ _ _ (search rules) told; reopens = image_reopens c.args.self.now }
 
-pub place_of-start-requires : goal.place_of-start-requires
-place_of-start-requires c =
-    (standing_some (spot (memory_of_image c.args.self.now) c.args.at.bank c.args.at.block) _ (sym c.standing.ensures ∙ c.in_ok-standing.ensures.ok_part)).here
-
 pub invariant_of-self : goal.invariant_of-self
 invariant_of-self c =
     let s = c.args.self.now.shape in

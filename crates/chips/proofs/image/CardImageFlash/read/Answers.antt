@@ -13,12 +13,6 @@ returns-in_err-check_read c =
     let told = ap answer (search rules) ∙ c.check_read.ensures.answer _ c.args.buffer.now (shown_shows seen.shown _ seen.same _ (c.standing.ensures c.args.self.now.shape.pages seen.long)) refl in
     record { answer = told; buffer = err_refused c.from_residual-in_err-check_read.result _ _ _ (search rules) told }
 
-pub quarter-requires : goal.quarter-requires
-quarter-requires c =
-    let seen = rw c.in_ok-block.ensures.ok_part at c.block.ensures in
-    let passed = c.in_ok-check_read.ensures.passed in
-    (omega (arith, seen.long), omega arith)
-
 pub returns : goal.returns
 returns c =
     let seen = rw c.in_ok-block.ensures.ok_part at c.block.ensures in
