@@ -113,14 +113,11 @@ impl<'a> Flash for BareChip<'a> {
         ensures refused { is_ok result ≡ false → parts_of self.new ≡ parts_of self.old }
     {
         let i = self.number_of(at).ok_or(Refusal::Outside)?;
-        let BlockRecord { standing, lives } = self.records[i];
-        check_program(self.shape.pages, usize::from(standing), page, bytes.len())?;
+        let standing = usize::from(self.records[i].standing);
+        check_program(self.shape.pages, standing, page, bytes.len())?;
         let start = (i * self.shape.pages + page) * PAGE;
         self.bytes[start..start + PAGE].copy_from_slice(bytes);
-        self.records[i] = BlockRecord {
-            standing: standing + 1,
-            lives,
-        };
+        self.records[i].standing += 1;
         Ok(())
     }
 
@@ -136,10 +133,7 @@ impl<'a> Flash for BareChip<'a> {
         if lives == 0 {
             return Err(Refusal::Worn);
         }
-        self.records[i] = BlockRecord {
-            standing: 0,
-            lives: lives - 1,
-        };
+        self.records[i] = BlockRecord::blank(lives - 1);
         Ok(())
     }
 }

@@ -57,19 +57,8 @@ mod tests {
     fn least(rt: HostRuntime) {
         let mut bytes = [OLD; 2060];
         assert!(rt; CardImage::format(Shape::new(1, 1, 1), 500, &mut bytes));
-        for (i, byte) in bytes.iter().enumerate() {
-            let expected = match i {
-                0 => 0x43,
-                1 => 0x49,
-                2..=5 => 0x01,
-                6 => 0x42,
-                7 => 0x4B,
-                8 => 0xF4,
-                9 => 0x01,
-                _ => 0xFF,
-            };
-            assert!(rt; *byte == expected);
-        }
+        assert!(rt; bytes.starts_with(&[0x43, 0x49, 0x01, 1, 1, 1, 0x42, 0x4B, 0xF4, 0x01]));
+        assert!(rt; bytes[10..].iter().all(|byte| *byte == 0xFF));
         assert!(rt; CardImage::open(&mut bytes).shape() == Shape::new(1, 1, 1));
     }
 

@@ -14,7 +14,7 @@ returns-in_err-check_program c =
     let whole = c.args.self.now.whole in
     let found = MatchOption-at_some _ _ c.in_ok-i.i c.in_ok-i.ensures.ok_part c.number_of.ensures in
     let same : c.from_residual-in_err-check_program.result ≡ c.check_program.result = grind arith in
-    let shows = rw (sym c.from.ensures) at (found_shows whole found c.index-self-i.result) in
+    let shows = rw (sym c.from-standing.ensures) at (found_shows whole found c.index-self-i.result) in
     let told = ap answer same ∙ c.check_program.ensures.answer _ c.args.bytes.now shows refl in
     record { answer = told; after = err_refused c.from_residual-in_err-check_program.result _ _ _ (search rules) told; refused = λ _. refl }
 
@@ -24,14 +24,15 @@ returns c =
     let whole = c.args.self.now.whole in
     let found = MatchOption-at_some _ _ c.in_ok-i.i c.in_ok-i.ensures.ok_part c.number_of.ensures in
     let passed = c.in_ok-check_program.ensures.passed in
-    let shows = rw (sym c.from.ensures) at (found_shows whole found c.index-self-i.result) in
+    let shows = rw (sym c.from-standing.ensures) at (found_shows whole found c.index-self-i.result) in
     let done = c.in_ok-check_program.ensures.answer _ c.args.bytes.now shows refl in
     let count = ap (λ r. r.standing) (found_record whole found c.index-self-i.result) in
     record {
       answer = done;
       after = laid_out_programmed whole found c.args.page c.args.bytes.now _ _ (omega arith) (omega arith) (omega (arith, count))
           (copied_page s.bytes.now c.args.bytes.now c.copy_from_slice.new.self (c.in_ok-i.i * s.shape.pages + c.args.page) c.copy_from_slice.ensures.after)
-          (omega arith) (ap (λ r. r.lives) (found_record whole found c.index-self-i-2.result))
+          (omega (arith, count, ap (λ r. r.standing) (found_record whole found c.index-self-i-2.result)))
+          (ap (λ r. r.lives) (found_record whole found c.index-self-i-3.result))
           ∙ sym (not_refused _ _ _ (sym done));
       refused = λ e. absurd (false≢true (sym e));
     }
