@@ -1,21 +1,24 @@
 -- What the calls answer of a block that the image shows, and what they make of the image.
 use Rattle.std.proofs.Common.{◌≡◌, ℕ, ◌+◌, ◌-◌, ◌*◌, ◌<◌, true, List, [], length, get_or, take, drop, None, Some, sym, refl, ap, ◌∙◌, arith}
-use Rattle.std.specs.declared.ops.Range.{Range}
-use borrow.Rule.Slice.PartMut.{put_mid}
 use Rattle.std.proofs.lemmas.Bool.{cond_both}
 use Rattle.std.proofs.lemmas.List.FromFn.{get_or-map-range_with_len, length-map-range_with_len}
-use Rattle.flash.specs.Calls.{Spot, emptied, lives_at, quarter_of, spot, standing_at, with_block, written}
+use Rattle.std.specs.declared.ops.Range.{Range}
+use borrow.Rule.Slice.PartMut.{put_mid}
+use Rattle.flash.specs.Calls.{Spot, changed, emptied, erase_number, erased, lives_at, program_number, programmed, quarter_of, spot, standing_at, with_block, written}
+use Rattle.flash.specs.Memory.{Block, Memory}
+use Rattle.flash.specs.Tables.{unless_refused}
+use Rattle.flash.proofs.Calls.{erase_done, not_refused, program_done}
 use Rattle.flash.specs.declared.Shape.{Shape}
 use Rattle.chips.specs.Bounded.{number_below}
 use Rattle.chips.specs.Checks.{Shows}
 use Rattle.chips.specs.ImageBlank.{blank_block}
-use Rattle.chips.specs.ImageBounded.{named_by_banks, record_long}
-use Rattle.chips.specs.ImageLayout.{FoundAt, Shown, block_in, block_size, lives_in, named_shape, page_in, put, block_record, standing_in, stored, with_page, with_record}
+use Rattle.chips.specs.ImageBounded.{block_long, named_by_banks}
+use Rattle.chips.specs.ImageLayout.{FoundAt, Shown, block_fits, block_in, block_record, block_size, erased_bytes, lives_in, named_shape, page_in, programmed_bytes, put, standing_in, stored, with_page, with_record}
 use Rattle.chips.specs.Layout.{block_count}
 use Rattle.chips.proofs.ImageChanged.{named_now, stored_now}
-use Rattle.chips.proofs.Stretches.{put_mid_put}
+use Rattle.chips.proofs.ImageRecords.{block_blank, block_written, fits_blank, fits_written, length-blank, length_written}
 use Rattle.chips.proofs.Numbered.{numbered_spot}
-use Rattle.chips.proofs.ImageRecords.{block_blank, block_written, length-blank, length_written, fits_blank, fits_written}
+use Rattle.chips.proofs.Stretches.{put_mid_put}
 
 -- what the answer to a question tells of the block
 pub standing_some : (v : Spot) (n : ℕ) → standing_at v ≡ Some n → Shows v v.depth n
@@ -26,104 +29,101 @@ standing_some v n e =
 pub lives_some : (v : Spot) (n : ℕ) → lives_at v ≡ Some n → (v.here ≡ true) × (v.block.lives ≡ n)
 lives_some v n e = cond_both v.here (Some v.block.lives) None (λ o. o ≡ Some n → (v.here ≡ true) × (v.block.lives ≡ n)) (λ here same. (here, cc)) (λ _ same. absurd cc) e
 
+-- the bytes are `now` after a call: their header names the shape still, they are these, and the flash that they show is m
+pub record Makes (s : Shape) (now these : List ℕ) (m : Memory) : Type 0 where
+  pub named : s ≡ named_shape now
+  pub bytes : now ≡ these
+  pub shown : stored s now ≡ m
+
 module _ {s : Shape} {bytes : List ℕ} {b k : ℕ} (shown : Shown s bytes b k) where
-  abbrev pub number : ℕ
+  abbrev number : ℕ
   number = b * s.blocks + k
 
-  -- the record of the block
-  abbrev pub held : List ℕ
+  -- the record of the block, and the block as the image shows it
+  abbrev held : List ℕ
   held = block_record s bytes number
+
+  abbrev seen : Spot
+  seen = record { here = true; depth = s.pages; block = block_in held s.pages }
 
   there : number < block_count s
   there = number_below b k s.banks s.blocks shown.bank shown.block
 
   long_held : length held ≡ block_size s
-  long_held = record_long s bytes number shown.sizes there
-
-  -- the part of the bytes that the record lies in, before and after it is written
-  module _ {place : Range ℕ} (found : FoundAt s bytes b k place) where
-    size_found : place.end - place.start ≡ block_size s
-    size_found = omega (arith, found.end)
-
-    held_found : take (place.end - place.start) (drop place.start bytes) ≡ held
-    held_found = λ t. take (size_found t) (drop (found.start t) bytes)
-
-    written_found : (new r : List ℕ) → new ≡ r → length r ≡ block_size s → put_mid place.start (place.end - place.start) bytes new ≡ with_record s bytes number r
-    written_found new r e long =
-        put_mid_put place.start (place.end - place.start) bytes new (size_found ∙ (sym long ∙ ap length (sym e)))
-        ∙ (λ t. put (found.start t) (e t) bytes)
-
-  -- the block, as the image shows it
-  abbrev seen : Spot
-  seen = record { here = true; depth = s.pages; block = block_in held s.pages }
+  long_held = block_long s bytes number shown.sizes there
 
   shown_spot : spot (stored s bytes) b k ≡ seen
   shown_spot = numbered_spot s (λ i. block_in (block_record s bytes i) s.pages) b k number shown.bank shown.block refl
 
-  abbrev count : ℕ
-  count = standing_in held s.pages
+  shown_count : length (spot (stored s bytes) b k).block.pages ≡ standing_in held s.pages
+  shown_count = ap (λ v. length v.block.pages) shown_spot ∙ length-map-range_with_len (page_in held) 0 (standing_in held s.pages)
 
-  pub shown_count : length (spot (stored s bytes) b k).block.pages ≡ count
-  shown_count = ap (λ v. length v.block.pages) shown_spot ∙ length-map-range_with_len (page_in held) 0 count
+  -- what a view of the record tells, which counts n pages
+  module _ (r : List ℕ) (same : r ≡ held) (n : ℕ) (count : n ≡ standing_in r s.pages) where
+    counted : n ≡ standing_in held s.pages
+    counted = count ∙ ap (λ x. standing_in x s.pages) same
 
-  -- what the checks of a call ask of the block, where a view of its record counts n pages
-  pub shown_shows : (r : List ℕ) → r ≡ held → (n : ℕ) → n ≡ standing_in r s.pages → Shows (spot (stored s bytes) b k) s.pages n
-  shown_shows r e n h = record {
-    here = ap (λ v. v.here) shown_spot;
-    depth = ap (λ v. v.depth) shown_spot;
-    stands = shown_count ∙ sym (h ∙ ap (λ x. standing_in x s.pages) e);
-  }
+    pub shown_shows : Shows (spot (stored s bytes) b k) s.pages n
+    shown_shows = record { here = ap (λ v. v.here) shown_spot; depth = ap (λ v. v.depth) shown_spot; stands = shown_count ∙ sym counted }
 
-  pub shown_standing : standing_at (spot (stored s bytes) b k) ≡ Some count
-  shown_standing = ap standing_at shown_spot ∙ ap Some (length-map-range_with_len (page_in held) 0 count)
+    pub shown_standing : standing_at (spot (stored s bytes) b k) ≡ Some n
+    shown_standing = ap standing_at shown_spot ∙ ap Some (length-map-range_with_len (page_in held) 0 (standing_in held s.pages) ∙ sym counted)
 
-  pub shown_quarter : (p q : ℕ) → p < count → quarter_of (get_or (spot (stored s bytes) b k).block.pages p []) q ≡ quarter_of (page_in held p) q
-  shown_quarter p q h =
-      ap (λ v. quarter_of (get_or v.block.pages p []) q) shown_spot
-      ∙ ap (λ x. quarter_of x q) (get_or-map-range_with_len (page_in held) 0 count p p [] h (omega arith))
+    pub shown_quarter : (p q : ℕ) → p < n → quarter_of (page_in r p) q ≡ quarter_of (get_or (spot (stored s bytes) b k).block.pages p []) q
+    shown_quarter p q h =
+        ap (λ x. quarter_of (page_in x p) q) same
+        ∙ sym (ap (λ v. quarter_of (get_or v.block.pages p []) q) shown_spot
+        ∙ ap (λ x. quarter_of x q) (get_or-map-range_with_len (page_in held) 0 (standing_in held s.pages) p p [] (omega (arith, counted)) (omega arith)))
 
-  -- ---- program: the page p is written, the first that does not stand
-  module _ (p : ℕ) (page : List ℕ) (low : p < s.pages) (long : length page ≡ 2048) (next : p ≡ count) where
-    abbrev programmed : List ℕ
-    programmed = with_page held p page
+  -- another record in its place, of the block v, where the call's number is n
+  module _ (named : s ≡ named_shape bytes) (r : List ℕ) (long : length r ≡ block_size s) (fits : block_fits held s.pages ≡ true → block_fits r s.pages ≡ true) where
+    makes : (n : ℕ) → n ≡ 0 → (v : Block) → block_in r s.pages ≡ v → (now : List ℕ) → now ≡ with_record s bytes number r
+        → Makes s now (unless_refused n (with_record s bytes number r) bytes) (changed (stored s bytes) b k n v)
+    makes n done v is now e = record {
+      named = named_now s bytes r number shown.sizes there long (named_by_banks s bytes named (omega (arith, shown.bank))) fits ∙ sym (ap named_shape e);
+      bytes = e ∙ sym (not_refused _ _ _ done);
+      shown = ap (stored s) e
+          ∙ (stored_now s bytes r number shown.sizes there long b k shown.bank shown.block refl ∙ (ap (with_block (stored s bytes) b k) is ∙ sym (not_refused _ _ _ done)));
+    }
 
-    long_programmed : length programmed ≡ block_size s
-    long_programmed = length_written held page s.pages p long_held low long (sym next) ∙ long_held
+-- the calls that write, where the record lies at this place
+module _ {s : Shape} {bytes : List ℕ} {b k : ℕ} {place : Range ℕ} (found : FoundAt s bytes b k place) (named : s ≡ named_shape bytes) where
+  abbrev old : List ℕ
+  old = take (place.end - place.start) (drop place.start bytes)
 
-    pub stored_programmed : stored s (with_record s bytes number programmed) ≡ with_block (stored s bytes) b k (written ((stored s bytes).at b k) page)
-    stored_programmed =
-        stored_now s bytes programmed number shown.sizes there long_programmed b k shown.bank shown.block refl
-        ∙ ap (with_block (stored s bytes) b k)
-        (block_written held page s.pages p long_held low long (sym next) ∙ sym (ap (λ v. written v.block page) shown_spot))
+  abbrev after : List ℕ → List ℕ
+  after new = put_mid place.start (place.end - place.start) bytes new
 
-    pub next_programmed : {place : Range ℕ} (found : FoundAt s bytes b k place) (new : List ℕ) → new ≡ with_page (take (place.end - place.start) (drop place.start bytes)) p page
-        → put_mid place.start (place.end - place.start) bytes new ≡ with_record s bytes number programmed
-    next_programmed found new e = written_found found new programmed (e ∙ ap (λ r. with_page r p page) (held_found found)) long_programmed
+  size_found : place.end - place.start ≡ block_size s
+  size_found = omega (arith, found.end)
 
-    pub named_programmed : s ≡ named_shape bytes → s ≡ named_shape (with_record s bytes number programmed)
-    named_programmed named =
-        named_now s bytes programmed number shown.sizes there long_programmed (named_by_banks s bytes named (omega (arith, shown.bank)))
-        (fits_written held page s.pages p long_held low long (sym next))
+  old_held : old ≡ held found.shown
+  old_held = λ t. take (size_found t) (drop (found.start t) bytes)
 
-  -- ---- erase
-  pub shown_left : (spot (stored s bytes) b k).block.lives ≡ lives_in held
-  shown_left = ap (λ v. v.block.lives) shown_spot
+  pub long_old : length old ≡ 4 + 2050 * s.pages
+  long_old = ap length old_held ∙ long_held found.shown
 
-  abbrev erased : List ℕ
-  erased = blank_block s (lives_in held - 1)
+  after_is : (new r : List ℕ) → new ≡ r → length r ≡ block_size s → after new ≡ with_record s bytes (b * s.blocks + k) r
+  after_is new r e long =
+      put_mid_put place.start (place.end - place.start) bytes new (size_found ∙ (sym long ∙ ap length (sym e))) ∙ (λ t. put (found.start t) (e t) bytes)
 
-  pub next_erased : {place : Range ℕ} (found : FoundAt s bytes b k place) (new : List ℕ) → new ≡ erased → put_mid place.start (place.end - place.start) bytes new ≡ with_record s bytes number erased
-  next_erased found new e = written_found found new erased e (length-blank s (lives_in held - 1))
+  pub program_makes : (p n : ℕ) (page new : List ℕ) → Shows (spot (stored s bytes) b k) s.pages n → (p < s.pages) × ((p ≡ n) × (length page ≡ 2048)) → new ≡ with_page old p page
+      → Makes s (after new) (programmed_bytes s bytes b k p page) (programmed (stored s bytes) b k p page)
+  program_makes p n page new shows (low, (is, long)) e =
+      let r = held found.shown in
+      let next = sym (is ∙ (sym shows.stands ∙ shown_count found.shown)) in
+      let size = length_written r page s.pages p (long_held found.shown) low long next ∙ long_held found.shown in
+      makes found.shown named (with_page r p page) size (fits_written r page s.pages p (long_held found.shown) low long next)
+      (program_number (spot (stored s bytes) b k) p page) (program_done (spot (stored s bytes) b k) p page shows.here low long (is ∙ sym shows.stands))
+      (written ((stored s bytes).at b k) page) (block_written r page s.pages p (long_held found.shown) low long next ∙ sym (ap (λ v. written v.block page) (shown_spot found.shown)))
+      (after new) (after_is new (with_page r p page) (e ∙ ap (λ x. with_page x p page) old_held) size)
 
-  pub long_found : {place : Range ℕ} → FoundAt s bytes b k place → length (take (place.end - place.start) (drop place.start bytes)) ≡ 4 + 2050 * s.pages
-  long_found found = ap length (held_found found) ∙ long_held
-
-  pub stored_erased : stored s (with_record s bytes number erased) ≡ with_block (stored s bytes) b k (emptied ((stored s bytes).at b k))
-  stored_erased =
-      stored_now s bytes erased number shown.sizes there (length-blank s (lives_in held - 1)) b k shown.bank shown.block refl
-      ∙ ap (with_block (stored s bytes) b k) (block_blank s (lives_in held - 1) (omega arith) ∙ sym (ap (λ v. emptied v.block) shown_spot))
-
-  pub named_erased : s ≡ named_shape bytes → s ≡ named_shape (with_record s bytes number erased)
-  named_erased named =
-      named_now s bytes erased number shown.sizes there (length-blank s (lives_in held - 1)) (named_by_banks s bytes named (omega (arith, shown.bank)))
-      (λ _. fits_blank s (lives_in held - 1))
+  pub erase_makes : (n : ℕ) (new : List ℕ) → ((spot (stored s bytes) b k).here ≡ true) × ((spot (stored s bytes) b k).block.lives ≡ n) → 0 < n → new ≡ blank_block s (n - 1)
+      → Makes s (after new) (erased_bytes s bytes b k) (erased (stored s bytes) b k)
+  erase_makes n new (here, left) some e =
+      let lives = lives_in (held found.shown) in
+      let is : n ≡ lives = sym left ∙ ap (λ v. v.block.lives) (shown_spot found.shown) in
+      makes found.shown named (blank_block s (lives - 1)) (length-blank s (lives - 1)) (λ _. fits_blank s (lives - 1))
+      (erase_number (spot (stored s bytes) b k)) (erase_done (spot (stored s bytes) b k) here (omega arith))
+      (emptied ((stored s bytes).at b k)) (block_blank s (lives - 1) (omega arith) ∙ sym (ap (λ v. emptied v.block) (shown_spot found.shown)))
+      (after new) (after_is new (blank_block s (lives - 1)) (e ∙ ap (λ l. blank_block s (l - 1)) is) (length-blank s (lives - 1)))

@@ -9,7 +9,7 @@ use Rattle.std.proofs.lemmas.Nat.{mul-le}
 use Rattle.flash.specs.Calls.{with_block}
 use Rattle.flash.specs.Memory.{no_banks}
 use Rattle.flash.specs.declared.Shape.{Shape}
-use Rattle.chips.specs.ImageBounded.{Named, block_within, empty_stored, named_by_image, record_long}
+use Rattle.chips.specs.ImageBounded.{Named, block_within, empty_stored, named_by_image, block_long}
 use Rattle.chips.specs.ImageLayout.{block_in, block_size, block_start, header_mark, image_length, image_sizes_fit, is_image, named_shape, opened, block_record, block_fits, blocks_fit, shape_in, stored, with_record}
 use Rattle.chips.specs.ImageMemory.{Reopens, bytes_of}
 use Rattle.chips.specs.Layout.{block_count, shape_fits}
@@ -27,9 +27,6 @@ reopens s bytes named =
     cond-false (is_image bytes) _ no_banks no
     ∙ (sym (empty_stored bytes) ∙ ap (λ v. stored v bytes) (sym (named ∙ cond-false (is_image bytes) (shape_in bytes) no_shape no))))
     (cases_Bool (is_image bytes))
-
-pub reopens_same : (s : Shape) {xs ys : List ℕ} → xs ≡ ys → s ≡ named_shape ys → opened xs ≡ stored s xs
-reopens_same s {xs} same named = reopens s xs (named ∙ sym (ap named_shape same))
 
 -- opening the bytes of an image again shows what it shows
 pub image_reopens : (image : CardImage) → Reopens image
@@ -55,7 +52,7 @@ module _ (s : Shape) (bytes : List ℕ) (sizes : image_sizes_fit s bytes ≡ tru
       ∙ ap (take (block_size s)) (drop-drop (i * block_size s) 6 bytes)
 
   fits_is : (i : ℕ) (t : Bool) → i < block_count s → Fits t (get_or records i []) → block_fits (block_record s bytes i) s.pages ≡ t
-  fits_is i t h fits = (subst (Fits t) (record_is i h) fits) (record_long s bytes i sizes h)
+  fits_is i t h fits = (subst (Fits t) (record_is i h) fits) (block_long s bytes i sizes h)
 
   pub blocks_in_order : (t : Bool) → MatchBool t (AllWithin (Fits true) records 0 (length records)) ((k : ℕ) × (k < length records) × HoldsAt (Fits false) records k)
       → t ≡ blocks_fit s bytes (block_count s)

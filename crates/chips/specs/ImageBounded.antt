@@ -54,8 +54,8 @@ block_ends s i h = omega (arith, mul-le (i + 1) (block_size s) (block_count s) (
 pub block_within : (s : Shape) (bytes : List ℕ) (i : ℕ) → image_sizes_fit s bytes ≡ true → i < block_count s → block_start s i + block_size s ≤ length bytes
 block_within s bytes i e h = let sizes = image_sizes_of s bytes e in omega (arith, block_ends s i h)
 
-pub record_long : (s : Shape) (bytes : List ℕ) (i : ℕ) → image_sizes_fit s bytes ≡ true → i < block_count s → length (block_record s bytes i) ≡ block_size s
-record_long s bytes i e h = let within = block_within s bytes i e h in simp (length-take, length-drop) (omega arith)
+pub block_long : (s : Shape) (bytes : List ℕ) (i : ℕ) → image_sizes_fit s bytes ≡ true → i < block_count s → length (block_record s bytes i) ≡ block_size s
+block_long s bytes i e h = let within = block_within s bytes i e h in simp (length-take, length-drop) (omega arith)
 
 -- ---- what the shape of an image tells
 -- the bytes are an image whose header names the shape s
@@ -89,7 +89,7 @@ stored_bounds s bytes named =
     ⊎_elim
     (λ yes.
     let e = (named_by_image s bytes named yes).sizes in
-    numbered_bounds s _ (image_sizes_of s bytes e).ranges (λ i h. block_sound (block_record s bytes i) s.pages (omega (arith, record_long s bytes i e h))))
+    numbered_bounds s _ (image_sizes_of s bytes e).ranges (λ i h. block_sound (block_record s bytes i) s.pages (omega (arith, block_long s bytes i e h))))
     (λ no. subst Bounds (sym (ap (λ v. stored v bytes) (named ∙ cond-false (is_image bytes) (shape_in bytes) no_shape no) ∙ empty_stored bytes)) no_banks_bounds)
     (cases_Bool (is_image bytes))
 

@@ -27,7 +27,8 @@ fn header(shape: Shape) -> [u8; HEADER]
 
 impl<'a> CardImage<'a> {
     // Writes a blank image, with these lives in every block, and answers true. Where no flash can have the shape,
-    // or the bytes are not just as many as its image has, it answers false and writes nothing.
+    // or the bytes are not just as many as its image has, it answers false and writes nothing. The rules of the card
+    // ask for just this yes or no.
     pub fn format(shape: Shape, lives: u16, bytes: &mut [u8]) -> bool
         ensures answer { result ≡ image_sizes_fit shape bytes.old }
         ensures bytes { bytes.new ≡ (if image_sizes_fit shape bytes.old then blank_image shape lives else bytes.old) }
@@ -38,7 +39,7 @@ impl<'a> CardImage<'a> {
         }
         bytes[..HEADER].copy_from_slice(&header(shape));
         let size = block_size(shape);
-        // An index, and no `chunks_exact_mut`: of what a loop writes through chunks that were lent, a proof knows nothing after it.
+        // By an index: of what a loop writes to lent parts, by `chunks_exact_mut` or by `split_at_mut`, nothing is known after it.
         for i in 0..shape.banks * shape.blocks {
             let start = block_start(shape, i);
             write_blank(&mut bytes[start..start + size], lives);

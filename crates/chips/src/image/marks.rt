@@ -16,7 +16,7 @@ pub(super) const STANDING_MARK: [u8; 2] = [0x50, 0x47];
 // Before the data of a page that does not.
 pub(super) const BLANK_MARK: [u8; 2] = [0xFF, 0xFF];
 
-// The bytes of a page's mark.
+// The bytes of the mark of a block or of a page.
 pub(super) const MARK: usize = 2;
 
 // The bytes before the first block.

@@ -6,7 +6,8 @@ ghost use Rattle.chips.specs.ImageLayout.{lives_in, page_in, block_fits, standin
 use crate::image::marks::{BLANK_MARK, BLOCK_HEAD, BLOCK_MARK, MARK, PAGE_RECORD, STANDING_MARK};
 use flash::QUARTER;
 
-// A block as it lies in an image: its mark, its lives, and the records of its pages.
+// A block as it lies in an image: its mark, its lives, and the records of its pages. What is said of its pages is said
+// of each number n of them that the length allows.
 #[derive(Clone, Copy)]
 pub(super) struct BlockView<'a> {
     pub(super) bytes: &'a [u8],
@@ -27,6 +28,7 @@ impl<'a> BlockView<'a> {
         ensures { (n : ℕ) → length self.now.bytes.now ≡ 4 + 2050 * n → result ≡ standing_in self.now.bytes.now n }
     {
         let pages = &self.bytes[BLOCK_HEAD..];
+        // `chunks`, since nothing is promised of what `chunks_exact` gives from the back. All are whole.
         let last = pages
             .chunks(PAGE_RECORD)
             .rposition(|page| page.starts_with(&STANDING_MARK));
