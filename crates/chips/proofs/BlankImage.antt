@@ -56,11 +56,11 @@ module _ (s : Shape) (lives : ℕ) where
       let block = blank_block s lives in
       let long = length-blocks n in
       ⊎_elim
-      (λ low.
+      (λ (low : i < n).
       let more : (i + 1) * z ≤ n * z = mul-le (i + 1) z n z (omega arith) (omega arith) in
       ap (take z) (drop-append-le (i * z) before block (omega arith))
       ∙ (take-append-le z (drop (i * z) before) block (simp length-drop (omega arith)) ∙ record_blocks n i low))
-      (λ last.
+      (λ (last : n ≤ i).
       let e : i ≡ n = omega arith in
       ap (take z) (drop_at before block (i * z) (long ∙ ap (λ x. x * z) (sym e))) ∙ take_all z block (omega (arith, length-blank s lives)))
       (cases_lt i n)

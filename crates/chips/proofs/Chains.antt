@@ -20,6 +20,7 @@ module _ (n : ℕ) (some : 0 < n) (xs : List ℕ) where
   abbrev pub piece : ℕ → List ℕ
   piece k = take n (drop (k * n) xs)
 
+  -- all that an iterator gives which has the pieces from the piece a on left
   road : (c a : ℕ) (s : ChunksExact ℕ) → chunks_exact_size s ≡ n → chunks_exact_rest s ≡ drop (a * n) xs → length (chunks_exact_rest s) ≡ c * n
       → AlwaysYields chunks_exact_steps (λ y. y.now) s (map piece (range_with_len a c))
   road zero a s z e l = λ x j step. omega (arith, z, l, step.1.1, ap length step.1.0, length-append x.now (chunks_exact_rest j))
@@ -53,6 +54,7 @@ list_all-map-range test f (suc c) a =
     )
 
 -- ---- backward: the last piece that passes a test
+-- what an option holds of which these are told
 some_item : {A : Type 0} (o : Option A) (y : A) → option_map (λ x. x) o ≡ Some y → (x : A) × (o ≡ Some x)
 some_item None y e = absurd cc
 some_item (Some x) y e = (x, refl)
