@@ -1,9 +1,8 @@
 -- That shown blocks are found at places of the bank, and two of them at two places.
-use Rattle.std.proofs.Common.{Some, ◌≡◌, ℕ, zero, suc, ◌+◌, ◌-◌, ◌<◌, ◌≤◌, true, false, not, List, ◌∷◌, ◌++◌, length, get_or, ap, sym, ◌∙◌, add-zero, zero-add, arith}
+use Rattle.std.proofs.Common.{Some, ◌≡◌, ℕ, suc, ◌+◌, ◌-◌, ◌<◌, ◌≤◌, true, false, not, List, ◌∷◌, length, get_or, ap, sym, ◌∙◌, zero-add, arith}
 use Rattle.std.proofs.lemmas.Option.{slice_get-get_or}
 use Rattle.std.specs.List.{slice_get, All, AllPairs, range_with_len}
-use Rattle.std.proofs.lemmas.List.{length-append}
-use Rattle.std.proofs.lemmas.List.Elements.{All-filter, filter-append}
+use Rattle.std.proofs.lemmas.List.Elements.{All-filter}
 use Rattle.std.proofs.lemmas.List.FromFn.{get_or-range_with_len, length-range_with_len}
 use Rattle.std.proofs.lemmas.List.Kept.{AllPairs-filter, AllPairs-from_increasing}
 use Rattle.std.proofs.lemmas.List.Sums.{AllPass-from_list_all}
@@ -16,15 +15,9 @@ use Rattle.layers.specs.declared.replacer.plan.Plan.{Plan}
 use Rattle.layers.specs.ReplacedPlan.{planned, shown_of}
 use Rattle.layers.specs.Replaced.{bank_enough, enough, replaceable}
 use Rattle.layers.specs.ReplacedPlaces.{place_in}
+use Rattle.layers.proofs.ReplacedLists.{bad_cut}
 
 -- ---- the numbers of a range
-range_split : (a m n : ℕ) → range_with_len a (m + n) ≡ range_with_len a m ++ range_with_len (a + m) n
-range_split a zero n = simp (zero-add, add-zero)
-range_split a (suc m) n =
-    let more : suc m + n ≡ suc (m + n) = omega arith in
-    let same : a + 1 + m ≡ a + suc m = omega arith in
-    ap (range_with_len a) more ∙ ap (λ xs. a ∷ xs) (range_split (a + 1) m n ∙ ap (λ b. range_with_len (a + 1) m ++ range_with_len b n) same)
-
 range_rises : (a n : ℕ) → AllPairs (λ x y. x < y) (range_with_len a n)
 range_rises a n =
     AllPairs-from_increasing (range_with_len a n)
@@ -62,10 +55,9 @@ module _ (p : Plan) (bank : ℕ) (low : bank < p.below.banks) where
 
   before_rises : (j k : ℕ) → j < k → is_bad bad bank j ≡ true → before j < before k
   before_rises j k h t =
-      let more : j + suc (k - j - 1) ≡ k = omega arith in
-      let split = simp (more, filter-append {X = ℕ}, length-append {A = ℕ}, zero-add) at (ap (λ xs. length (bad_of bad bank xs)) (range_split 0 j (suc (k - j - 1)))) in
+      let cut = bad_cut bad bank j (suc (k - j - 1)) k (omega arith) in
       let rest = bad_of bad bank (range_with_len (j + 1) (k - j - 1)) in
-      omega (arith, split, ap length (cond-true (is_bad bad bank j) (j ∷ rest) rest t))
+      omega (arith, cut, ap length (cond-true (is_bad bad bank j) (j ∷ rest) rest t))
 
   -- a bad block is found at a good spare
   module _ (k : ℕ) (h : k < shown) (is : is_bad bad bank k ≡ true) where

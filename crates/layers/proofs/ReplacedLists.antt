@@ -1,13 +1,18 @@
--- The list of bad blocks, walked with an index.
-use Rattle.std.proofs.Common.{◌≡◌, ℕ, ◌+◌, ◌<◌, Bool, true, false, not, ◌&&◌, ltb, List, [], ◌∷◌, length, drop, refl, ap, ◌∙◌, sym, arith}
+-- The list of bad blocks, walked with an index, and the bad blocks of a bank, counted.
+use Rattle.std.proofs.Common.{◌≡◌, ℕ, zero, suc, ◌+◌, ◌-◌, ◌<◌, ◌≤◌, Bool, true, false, not, ◌&&◌, leb, ltb, List, [], ◌∷◌, ◌++◌, length, drop, refl, ap, ◌∙◌, sym, add-zero, zero-add, arith}
 use Rattle.std.specs.Bool.{MatchBool}
-use Rattle.std.specs.List.{AllWithin, HoldsAt, enumerate_from, list_all}
+use Rattle.std.specs.List.{AllWithin, HoldsAt, enumerate_from, list_all, range_with_len}
+use Rattle.std.proofs.lemmas.Bool.Decides.{nat_tests}
+use Rattle.std.proofs.lemmas.List.{length-append}
+use Rattle.std.proofs.lemmas.List.Elements.{filter-append}
+use Rattle.std.proofs.lemmas.List.Filters.{length-filter_both}
+use Rattle.std.proofs.lemmas.List.FromFn.{length-range_with_len}
 use Rattle.std.proofs.lemmas.List.Folds.{list_all_at}
 use Rattle.std.proofs.lemmas.List.Sums.{list_all-from_AllPass}
 use Rattle.std.proofs.lemmas.List.{drop-drop}
 use Rattle.flash.specs.declared.BlockAddress.{BlockAddress}
-use Rattle.flash.specs.Maps.{address, is_bad}
-use Rattle.layers.specs.Replaced.{listed}
+use Rattle.flash.specs.Maps.{address, bad_of, good_of, is_bad}
+use Rattle.layers.specs.Replaced.{bank_enough, listed}
 
 -- the block at an index is one of the flash, and not repeated after it
 abbrev pub good_entry : ℕ → ℕ → List BlockAddress → ℕ × BlockAddress → Bool
@@ -27,3 +32,28 @@ pub listed_is : (banks blocks : ℕ) (bad : List BlockAddress) (r : Bool)
     → r ≡ listed banks blocks bad
 listed_is banks blocks bad true h = sym (sym (listed_from banks blocks 0 bad bad refl) ∙ list_all-from_AllPass (good_entry banks blocks bad) (enumerate_from 0 bad) (λ k d l. h k d (omega arith) l))
 listed_is banks blocks bad false h = sym (sym (listed_from banks blocks 0 bad bad refl) ∙ list_all_at (good_entry banks blocks bad) (enumerate_from 0 bad) h.0 (0, address 0 0) h.1 (h.2 (0, address 0 0)))
+
+-- ---- the bad blocks of a bank
+-- the numbers of a range cut in two
+range_cut : (a m n : ℕ) → range_with_len a (m + n) ≡ range_with_len a m ++ range_with_len (a + m) n
+range_cut a zero n = simp (zero-add, add-zero)
+range_cut a (suc m) n =
+    let more : suc m + n ≡ suc (m + n) = omega arith in
+    let same : a + 1 + m ≡ a + suc m = omega arith in
+    ap (range_with_len a) more ∙ ap (λ xs. a ∷ xs) (range_cut (a + 1) m n ∙ ap (λ b. range_with_len (a + 1) m ++ range_with_len b n) same)
+
+-- of the first k blocks, those among the first m and among the n after them
+pub bad_cut : (bad : List BlockAddress) (bank m n k : ℕ) → m + n ≡ k
+    → length (bad_of bad bank (range_with_len 0 k)) ≡ length (bad_of bad bank (range_with_len 0 m)) + length (bad_of bad bank (range_with_len m n))
+bad_cut bad bank m n k is = simp (is, filter-append {X = ℕ}, length-append {A = ℕ}, zero-add) at (ap (λ xs. length (bad_of bad bank xs)) (range_cut 0 m n))
+
+-- each block is bad or good
+bad_or_good : (bad : List BlockAddress) (bank a n : ℕ) → length (bad_of bad bank (range_with_len a n)) + length (good_of bad bank (range_with_len a n)) ≡ n
+bad_or_good bad bank a n = length-filter_both (λ k. is_bad bad bank k) (λ k. not (is_bad bad bank k)) (λ _. refl) (range_with_len a n) ∙ length-range_with_len a n
+
+-- a bank has good spares enough just where it has no more bad blocks in all than spares
+pub bank_enough_is : (blocks spares : ℕ) (bad : List BlockAddress) (bank : ℕ) → leb (length (bad_of bad bank (range_with_len 0 blocks))) spares ≡ bank_enough blocks spares bad bank
+bank_enough_is blocks spares bad bank =
+    let shown = blocks - spares in
+    let cut = λ (h : spares ≤ blocks). bad_cut bad bank shown spares blocks (omega arith) in
+    grind (arith, nat_tests, bad_or_good bad bank 0 blocks, bad_or_good bad bank 0 shown, bad_or_good bad bank shown spares)

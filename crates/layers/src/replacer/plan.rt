@@ -3,11 +3,10 @@ ghost use Rattle.std.specs.Prelude.{◌≡◌, ℕ, ◌-◌, ◌<◌, ◌≤◌,
 ghost use Rattle.std.specs.List.{range_with_len};
 ghost use Rattle.flash.specs.Maps.{bad_of, good_of, is_bad};
 ghost use Rattle.flash.specs.Memory.{shape_of};
-ghost use Rattle.layers.specs.Replaced.{enough, listed, replaceable};
+ghost use Rattle.layers.specs.Replaced.{bank_enough, enough, listed, replaceable};
 ghost use Rattle.layers.specs.ReplacedPlaces.{place_in};
 
 use flash::{BlockAddress, Flash, Shape};
-use std::ops::Range;
 
 // Whether the list has the block.
 fn is_bad(bad: &[BlockAddress], bank: usize, block: usize) -> bool
@@ -16,18 +15,11 @@ fn is_bad(bad: &[BlockAddress], bank: usize, block: usize) -> bool
     bad.contains(&BlockAddress { bank, block })
 }
 
-// How many of these blocks of a bank are bad.
-fn count_bad(bad: &[BlockAddress], bank: usize, blocks: Range<usize>) -> usize
-    ensures { result ≡ length (bad_of bad.now bank (range_with_len blocks.start (blocks.end - blocks.start))) }
+// How many blocks of a bank before `end` are bad.
+fn count_bad(bad: &[BlockAddress], bank: usize, end: usize) -> usize
+    ensures { result ≡ length (bad_of bad.now bank (range_with_len 0 end)) }
 {
-    blocks.filter(|&block| is_bad(bad, bank, block)).count()
-}
-
-// How many are good.
-fn count_good(bad: &[BlockAddress], bank: usize, blocks: Range<usize>) -> usize
-    ensures { result ≡ length (good_of bad.now bank (range_with_len blocks.start (blocks.end - blocks.start))) }
-{
-    blocks.filter(|&block| !is_bad(bad, bank, block)).count()
+    (0..end).filter(|&block| is_bad(bad, bank, block)).count()
 }
 
 // Whether each bad block is a block of the flash, and none is repeated.
@@ -37,15 +29,19 @@ fn listed(below: Shape, bad: &[BlockAddress]) -> bool
     bad.iter().enumerate().all(|(i, at)| below.contains(*at) && !bad[i + 1..].contains(at))
 }
 
-// Whether each bank has a good spare for each of its bad shown blocks.
+// Whether a bank has a good spare for each of its bad shown blocks: just where it has no more bad blocks in all than spares.
+#[tactic(auto, using(crate::proofs::ReplacedLists::bank_enough_is))]
+fn bank_enough(below: Shape, spares: usize, bad: &[BlockAddress], bank: usize) -> bool
+    ensures { result ≡ bank_enough below.blocks spares bad.now bank }
+{
+    count_bad(bad, bank, below.blocks) <= spares
+}
+
+// Whether each bank has enough of them.
 fn enough(below: Shape, spares: usize, bad: &[BlockAddress]) -> bool
-    requires { spares ≤ below.blocks }
     ensures { result ≡ enough below.blocks spares bad.now below.banks }
 {
-    let shown = below.blocks - spares;
-    (0..below.banks).all(|bank| {
-        count_bad(bad, bank, 0..shown) <= count_good(bad, bank, shown..below.blocks)
-    })
+    (0..below.banks).all(|bank| bank_enough(below, spares, bad, bank))
 }
 
 // Whether the last `spares` blocks of each bank can replace the bad blocks.
@@ -102,6 +98,7 @@ impl<'a> Plan<'a> {
     }
 
     // Where a shown block is found: a good one is itself, and the bad ones, rising, take the good spares, rising.
+    #[tactic(auto, using(crate::proofs::ReplacedApart::found_spare, crate::proofs::ReplacedApart::place_below))]
     fn place(&self, bank: usize, block: usize) -> usize
         requires bank { bank < self.now.below.banks }
         requires shown { block < shown_of self.now }
@@ -111,7 +108,7 @@ impl<'a> Plan<'a> {
         if !is_bad(self.bad, bank, block) {
             return block;
         }
-        let before = count_bad(self.bad, bank, 0..block);
+        let before = count_bad(self.bad, bank, block);
         self.good_spare(bank, before).unwrap()
     }
 
