@@ -41,7 +41,7 @@ impl<'a> BareChip<'a> {
     ghost use Rattle.chips.specs.Bounded.{memory_of};
 
     // A chip over these bytes and records as they are. It shows no banks where they do not fit the shape,
-    // or where a record counts more standing pages than a block has.
+    // or where a record counts more standing pages than a block has: making a chip cannot fail, and a flash without banks is one too.
     pub fn new(shape: Shape, bytes: &'a mut [u8], records: &'a mut [BlockRecord]) -> Self
         ensures { memory_of result ≡ new_memory (made_of shape bytes.old records.old) }
     {

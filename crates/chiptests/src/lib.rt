@@ -1,4 +1,6 @@
 // Runs of the bare chip, on small shapes.
+// Helpers of a few lines stand in each crate of tests: shared, they would be a library, with contracts of its own.
+// A table of cases and the loop over it stand together, so that a failed line names its table.
 #![tactic(auto)]
 
 #[cfg(test)]

@@ -64,7 +64,7 @@ impl Shape {
     }
 }
 
-// What a flash shows that has no banks.
+// What a flash shows that has no banks. A constant with a name, and no `Default`: the name says what the zeros are.
 pub const NO_BANKS: Shape = Shape {
     banks: 0,
     blocks: 0,

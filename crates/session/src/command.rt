@@ -25,10 +25,7 @@ fn numbers<const N: usize>(mut words: Words) -> Option<[usize; N]>
     for n in found.iter_mut() {
         *n = number(words.next()?)?;
     }
-    match words.next() {
-        None => Some(found),
-        Some(_) => None,
-    }
+    words.next().is_none().then_some(found)
 }
 
 // The command that a line writes: a letter, and then its numbers.

@@ -17,7 +17,7 @@ pub enum Reply {
     Zones(Result<Vec<ZoneReport>, CardRefusal>),
 }
 
-// The number that is printed for a refusal, from 1 on.
+// The number that is printed for a refusal, from 1 on. A line alone prints it, so it is no conversion of the type.
 fn code(refusal: CardRefusal) -> usize
     ensures { result ≡ refusal_number refusal - 10 }
 {

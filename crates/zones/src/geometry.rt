@@ -34,7 +34,7 @@ impl Geometry {
         ensures unfit { IfNone result (bad_shape (survey (F.Flash.memory flash.now)) limit width ≡ true) }
     {
         let shape = flash.shape();
-        if limit == 0 || limit > 4 || !is_width(width) {
+        if !(1..=4).contains(&limit) || !is_width(width) {
             return None;
         }
         if shape.banks % width != 0 || shape.banks == 0 || shape.blocks <= limit {

@@ -15,10 +15,11 @@ fn header(shape: Shape) -> [u8; HEADER]
     requires { shape_fits shape ≡ true }
     ensures { result ≡ header shape }
 {
+    let [first, second, version] = HEADER_MARK;
     [
-        HEADER_MARK[0],
-        HEADER_MARK[1],
-        HEADER_MARK[2],
+        first,
+        second,
+        version,
         shape.banks as u8,
         shape.blocks as u8,
         shape.pages as u8,
