@@ -204,17 +204,32 @@ mod tests {
         Ok(buffer.iter().all(|byte| *byte == print(at, page, quarter)))
     }
 
-    // Programs all pages of the blocks of a flash of 3 banks, 6 blocks and 2 pages, and tells whether all read back.
+    // Visits all pages of a flash of 3 banks, 6 blocks and 2 pages.
+    fn each_page<V: FnMut(BlockAddress, usize) -> Result<(), Refusal>>(
+        mut visit: V,
+    ) -> Result<(), Refusal>
+        requires { V.IsAlwaysCallable visit }
+    {
+        for bank in 0..3 {
+            for block in 0..6 {
+                for page in 0..2 {
+                    visit(BlockAddress::new(bank, block), page)?;
+                }
+            }
+        }
+        Ok(())
+    }
+
+    // Programs all pages of such a flash, and tells whether all read back.
     fn fill<F: Flash>(flash: &mut F) -> Result<bool, Refusal> {
+        each_page(|at, page| flash.program(at, page, &printed(at, page)))?;
         let mut same = true;
-        for i in 0..36 {
-            let at = BlockAddress::new(i / 12, i / 2 % 6);
-            flash.program(at, i % 2, &printed(at, i % 2))?;
-        }
-        for i in 0..144 {
-            let at = BlockAddress::new(i / 48, i / 8 % 6);
-            same &= reads_back(flash, at, i / 4 % 2, i % 4)?;
-        }
+        each_page(|at, page| {
+            for quarter in 0..4 {
+                same &= reads_back(flash, at, page, quarter)?;
+            }
+            Ok(())
+        })?;
         Ok(same)
     }
 
