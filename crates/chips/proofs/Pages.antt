@@ -1,7 +1,7 @@
 -- What a page that is written changes of the bytes, and what it leaves.
 use Rattle.std.proofs.Common.{◌≡◌, ℕ, ◌+◌, ◌-◌, ◌*◌, ◌/◌, ◌%◌, ◌<◌, ◌≤◌, ◌≢◌, List, [], ◌∷◌, ◌++◌, map, length, take, drop, sym, ap, ◌∙◌, ⊎_elim, arith}
 use Rattle.std.specs.List.{range_with_len}
-use Rattle.std.proofs.lemmas.List.{drop-take, take-take, drop-drop, length-take, length-drop, length-append}
+use Rattle.std.proofs.lemmas.List.{drop-take, take-take, drop-drop}
 use Rattle.std.proofs.lemmas.List.FromFn.{fill_by_all, length-map-range_with_len, get_or-map-range_with_len, map-range_with_len_more}
 use Rattle.std.proofs.lemmas.Slice.{between-put_mid, drop-put_mid, take-put_mid_below}
 use Rattle.std.proofs.lemmas.Nat.{div-mul-add, mod-mul-add}
@@ -15,9 +15,6 @@ abbrev pub put_page : List ℕ → ℕ → List ℕ → List ℕ
 put_page bytes j page = put_mid (j * 2048) 2048 bytes page
 
 module _ (bytes page : List ℕ) (j : ℕ) (fits : j * 2048 + 2048 ≤ length bytes) (long : length page ≡ 2048) where
-  pub length-put_page : length (put_page bytes j page) ≡ length bytes
-  length-put_page = simp (length-append, length-take, length-drop) (omega arith)
-
   page_at_same : page_at (put_page bytes j page) j ≡ page
   page_at_same =
       let a = j * 2048 in

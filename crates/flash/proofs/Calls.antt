@@ -1,13 +1,13 @@
 -- What the numbers of the refusals, and what the calls make of a flash, come to where the tests are known.
-use Rattle.std.proofs.Common.{◌≡◌, ℕ, ◌<◌, ◌≤◌, true, eqb, List, length, sym, ◌∙◌, arith}
+use Rattle.std.proofs.Common.{◌≡◌, ℕ, ◌<◌, true, eqb, List, length, sym, ◌∙◌, arith}
 use Rattle.std.proofs.lemmas.Bool.{cond_both, cond-false, cond-true, eq-eqb, eqb-true, ne_eqb}
 use Rattle.std.proofs.lemmas.Bool.Decides.{nat_tests}
-use Rattle.flash.specs.Memory.{Bounds, Memory}
+use Rattle.flash.specs.Memory.{Memory}
 use Rattle.flash.specs.Tables.{unless_refused}
 use Rattle.flash.specs.Numbers.{number}
 use Rattle.flash.specs.declared.Refusal.{Refusal}
 use Rattle.flash.specs.declared.Refusal.TheVariants.{Outside, Length, Order, Blank, Worn}
-use Rattle.flash.specs.Calls.{Spot, spot, program_number, read_number, erase_number}
+use Rattle.flash.specs.Calls.{Spot, program_number, erase_number}
 
 -- two memories, and two spots, that are the same in each part
 pub same_memory : (m n : Memory) → m.banks ≡ n.banks → m.blocks ≡ n.blocks → m.depth ≡ n.depth → ((b k : ℕ) → m.at b k ≡ n.at b k) → m ≡ n
@@ -23,26 +23,11 @@ not_refused n x y e = cond-true (eqb n 0) x y (eq-eqb n 0 e)
 pub refused : {A : Type 0} (n e : ℕ) (x y : A) → n ≡ e → 0 < e → unless_refused n x y ≡ y
 refused n e x y h l = cond-false (eqb n 0) x y (ne_eqb n 0 (λ z. omega arith))
 
-module _ (s : Spot) (p : ℕ) (bytes : List ℕ) (here : s.here ≡ true) (low : p < s.depth) (long : length bytes ≡ 2048) where
-  pub program_order : (p ≡ length s.block.pages → ⊥) → program_number s p bytes ≡ 3
-  program_order other = grind (arith, nat_tests)
+pub program_done : (s : Spot) (p : ℕ) (bytes : List ℕ) → s.here ≡ true → p < s.depth → length bytes ≡ 2048 → p ≡ length s.block.pages → program_number s p bytes ≡ 0
+program_done s p bytes here low long next = grind (arith, nat_tests)
 
-  pub program_done : p ≡ length s.block.pages → program_number s p bytes ≡ 0
-  program_done next = grind (arith, nat_tests)
-
-module _ (s : Spot) (p q : ℕ) (buffer : List ℕ) (here : s.here ≡ true) (low : p < s.depth) (part : q < 4) (long : length buffer ≡ 512) where
-  pub read_blank : length s.block.pages ≤ p → read_number s p q buffer ≡ 4
-  read_blank h = grind (arith, nat_tests)
-
-  pub read_done : p < length s.block.pages → read_number s p q buffer ≡ 0
-  read_done h = grind (arith, nat_tests)
-
-module _ (s : Spot) (here : s.here ≡ true) where
-  pub erase_worn : s.block.lives ≡ 0 → erase_number s ≡ 5
-  erase_worn e = grind (arith, nat_tests)
-
-  pub erase_done : 0 < s.block.lives → erase_number s ≡ 0
-  erase_done h = grind (arith, nat_tests)
+pub erase_done : (s : Spot) → s.here ≡ true → 0 < s.block.lives → erase_number s ≡ 0
+erase_done s here h = grind (arith, nat_tests)
 
 -- what a function makes of a call that is accepted or refused
 pub unless_refused_through : {A B : Type 0} (f : A → B) (n : ℕ) (new old : A) (last : B) → (n ≡ 0 → f new ≡ last) → f (unless_refused n new old) ≡ unless_refused n last (f old)
@@ -50,28 +35,6 @@ unless_refused_through f n new old last h =
     cond_both (eqb n 0) new old (λ x. f x ≡ unless_refused n last (f old))
     (λ e. h (eqb-true n 0 e) ∙ sym (cond-true (eqb n 0) last (f old) e))
     (λ e. sym (cond-false (eqb n 0) last (f old) e))
-
--- what an accepted call tells
--- the place of the page is within the bounds of every flash
-pub program_within : (m : Memory) (b k p : ℕ) (bytes : List ℕ) → Bounds m → program_number (spot m b k) p bytes ≡ 0 → (b < 16) × ((k < 64) × ((p < 64) × (length bytes ≡ 2048)))
-program_within m b k p bytes bm e =
-    let h = bm.banks in
-    let i = bm.blocks in
-    let j = bm.depth in
-    (grind (arith, nat_tests), (grind (arith, nat_tests), (grind (arith, nat_tests), grind (arith, nat_tests))))
-
-pub read_within : (m : Memory) (b k p q : ℕ) (buffer : List ℕ) → Bounds m → read_number (spot m b k) p q buffer ≡ 0 → (b < 16) × ((k < 64) × ((p < 64) × (q < 4)))
-read_within m b k p q buffer bm e =
-    let h = bm.banks in
-    let i = bm.blocks in
-    let j = bm.depth in
-    (grind (arith, nat_tests), (grind (arith, nat_tests), (grind (arith, nat_tests), grind (arith, nat_tests))))
-
-pub program_next : (s : Spot) (p : ℕ) (bytes : List ℕ) → program_number s p bytes ≡ 0 → p ≡ length s.block.pages
-program_next s p bytes e = grind (arith, nat_tests)
-
-pub read_stands : (s : Spot) (p q : ℕ) (buffer : List ℕ) → read_number s p q buffer ≡ 0 → p < length s.block.pages
-read_stands s p q buffer e = grind (arith, nat_tests)
 
 -- a refusal's number is not 0
 pub number_some : (r : Refusal) → 0 < number r
