@@ -1,7 +1,7 @@
 // A bare chip: a flash over bytes and block records that its owner lends.
 // Both lie bank by bank and block by block, and the bytes of a block page by page. They stay two slices, since the owner's memory
 // has that form: the bytes of all pages, and a record for each block.
-ghost use Rattle.std.specs.Prelude.{◌≡◌, false, is_ok, MatchOption};
+ghost use Rattle.std.specs.Prelude.{◌≡◌, false, MatchOption, OnErr};
 ghost use Rattle.flash.specs.Calls.{erase_number, erased, program_number, programmed, spot};
 ghost use Rattle.flash.specs.Memory.{in_shape};
 ghost use Rattle.flash.specs.Numbers.{answer};
@@ -110,7 +110,7 @@ impl<'a> Flash for BareChip<'a> {
     fn program(&mut self, at: BlockAddress, page: usize, bytes: &[u8]) -> Result<(), Refusal>
         ensures answer { answer result ≡ program_number (spot (memory_of self.old) at.bank at.block) page bytes.now }
         ensures after { memory_of self.new ≡ programmed (memory_of self.old) at.bank at.block page bytes.now }
-        ensures refused { is_ok result ≡ false → parts_of self.new ≡ parts_of self.old }
+        ensures refused { OnErr result (parts_of self.new ≡ parts_of self.old) }
     {
         let i = self.number_of(at).ok_or(Refusal::Outside)?;
         let standing = usize::from(self.records[i].standing);
@@ -126,7 +126,7 @@ impl<'a> Flash for BareChip<'a> {
         ensures answer { answer result ≡ erase_number (spot (memory_of self.old) at.bank at.block) }
         ensures after { memory_of self.new ≡ erased (memory_of self.old) at.bank at.block }
         ensures bytes { (parts_of self.new).bytes ≡ (parts_of self.old).bytes }
-        ensures refused { is_ok result ≡ false → parts_of self.new ≡ parts_of self.old }
+        ensures refused { OnErr result (parts_of self.new ≡ parts_of self.old) }
     {
         let i = self.number_of(at).ok_or(Refusal::Outside)?;
         let lives = self.records[i].lives;

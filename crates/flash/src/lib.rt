@@ -76,10 +76,11 @@ pub const PAGE: usize = 2048;
 
 pub const QUARTER: usize = 512;
 
-// Whatever keeps the meaning of a flash: a chip, or a layer over another flash.
+// Whatever keeps the meaning of a flash: a chip, or a layer over another flash. An implementation that promises more of a call
+// says these clauses again, since its own take their place.
 // A page is 2,048 bytes, four quarters of 512. A page stands from its program until the erase of its block.
 pub trait Flash {
-    // what the value means
+    // what the value means; no implementing type has a model besides, which would be a second meaning
     ghost memory: { Self → Memory };
 
     // every value is within the bounds of a flash

@@ -13,7 +13,7 @@ mod tests {
     // A byte that no blank image has where these tests look.
     const OLD: u8 = 7;
 
-    // What formatting answers over so many bytes, and whether it left every byte.
+    // What formatting answers over so many bytes, and whether it left every byte: two facts, of which each is asked.
     fn formatted(heap: Global, shape: Shape, length: usize) -> Result<(bool, bool), AllocError> {
         let mut bytes = vec![in heap; OLD; length]?;
         let answer = CardImage::format(shape, 3, bytes.as_mut_slice());

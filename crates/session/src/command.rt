@@ -1,4 +1,4 @@
-// The commands of a session, one to a line.
+// The commands of a session, one to a line. They are a closed set, so a `match` tells them apart and runs them.
 ghost use Rattle.std.specs.Prelude.{◌≡◌};
 ghost use Rattle.std.specs.Result.{result_ok};
 ghost use Rattle.session.specs.Commands.{command_of, numbers};

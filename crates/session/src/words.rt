@@ -3,7 +3,7 @@ ghost use Rattle.std.specs.Prelude.{◌≡◌, not, position};
 ghost use Rattle.std.specs.Iterator.{YieldsFirstRef, item_count};
 ghost use Rattle.session.specs.Lines.{white, words, words_left};
 
-// What is left of a line, from which words are taken one by one.
+// What is left of a line, from which words are taken one by one. What it stands for is said by the iterator's own members.
 #[derive(Drop)]
 pub struct Words<'a> {
     rest: &'a [u8],

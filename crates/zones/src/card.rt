@@ -1,5 +1,5 @@
 // The card over a flash that it holds.
-ghost use Rattle.std.specs.Prelude.{◌≡◌, false, map, is_ok};
+ghost use Rattle.std.specs.Prelude.{◌≡◌, map, OnErr};
 ghost use Rattle.flatcard.specs.Calls.{form, report};
 ghost use Rattle.flatcard.specs.Card.{unformed};
 ghost use Rattle.zones.specs.IntactBooks.{IntactBook, intact_prop};
@@ -38,7 +38,7 @@ impl<F: Flash> Card<F> {
         ensures answer { answer_of result ≡ (form (flat_card self.old) limit width (surveyed self.old)).0 }
         ensures flat { flat_card self.new ≡ (form (flat_card self.old) limit width (surveyed self.old)).1 }
         ensures flash { self.new.flash ≡ self.old.flash }
-        ensures refused { is_ok result ≡ false → self.new ≡ self.old }
+        ensures refused { OnErr result (self.new ≡ self.old) }
     {
         if self.book.is_some() {
             return Err(CardRefusal::Formed);
@@ -55,7 +55,7 @@ impl<F: Flash> Card<F> {
     pub fn report(&self, first: usize, list: &mut [ZoneReport]) -> Result<(), CardRefusal>
         ensures answer { number_of result ≡ (report (flat_card self.now) first (map line_of list.old)).0 }
         ensures list { map line_of list.new ≡ (report (flat_card self.now) first (map line_of list.old)).1 }
-        ensures refused { is_ok result ≡ false → list.new ≡ list.old }
+        ensures refused { OnErr result (list.new ≡ list.old) }
     {
         let book = self.book.as_ref().ok_or(CardRefusal::Unformed)?;
         if !book.geometry.has_zones(first, list.len()) {

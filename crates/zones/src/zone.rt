@@ -40,6 +40,7 @@ pub struct Zone {
 }
 
 impl Zone {
+    // A constant, and no `Default`: of a table that a call fills, the proofs do not close.
     pub const EMPTY: Zone = Zone {
         phase: Phase::Empty,
         pointer: 0,

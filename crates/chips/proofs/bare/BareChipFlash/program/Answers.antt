@@ -1,5 +1,4 @@
 use Rattle.std.proofs.Common.{◌≡◌, ◌+◌, ◌*◌, refl, sym, ap, ◌∙◌, arith, rules}
-use Rattle.std.proofs.lemmas.Bool.{false≢true}
 use Rattle.std.proofs.lemmas.Option.{MatchOption-at_some}
 use Rattle.flash.specs.Numbers.{answer}
 use Rattle.flash.proofs.Calls.{not_refused}
@@ -9,14 +8,17 @@ use Rattle.chips.proofs.Checked.{err_refused}
 use Rattle.chips.proofs.Pages.{copied_page}
 use Rattle.chips.proofs.bare.BareChipFlash.program.Goals as goal
 
-pub returns-in_err-check_program : goal.returns-in_err-check_program
-returns-in_err-check_program c =
+pub returns-in_err-check_program-clause-answer : goal.returns-in_err-check_program-clause-answer
+returns-in_err-check_program-clause-answer c =
     let whole = c.args.self.now.whole in
     let found = MatchOption-at_some _ _ c.in_ok-i.i c.in_ok-i.ensures.ok_part c.number_of.ensures in
     let same : c.from_residual-in_err-check_program.result ≡ c.check_program.result = grind arith in
     let shows = rw (sym c.from-standing.ensures) at (found_shows whole found c.index-self-i.result) in
-    let told = ap answer same ∙ c.check_program.ensures.answer _ c.args.bytes.now shows refl in
-    record { answer = told; after = err_refused c.from_residual-in_err-check_program.result _ _ _ (search rules) told; refused = λ _. refl }
+    ap answer same ∙ c.check_program.ensures.answer _ c.args.bytes.now shows refl
+
+pub returns-in_err-check_program-clause-after : goal.returns-in_err-check_program-clause-after
+returns-in_err-check_program-clause-after c =
+    err_refused c.from_residual-in_err-check_program.result _ _ _ (search rules) (returns-in_err-check_program-clause-answer c)
 
 pub returns : goal.returns
 returns c =
@@ -34,5 +36,5 @@ returns c =
           (omega (arith, count, ap (λ r. r.standing) (found_record whole found c.index-self-i-2.result)))
           (ap (λ r. r.lives) (found_record whole found c.index-self-i-3.result))
           ∙ sym (not_refused _ _ _ (sym done));
-      refused = λ e. absurd (false≢true (sym e));
+      refused = tt;
     }
