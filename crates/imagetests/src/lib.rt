@@ -89,11 +89,8 @@ mod tests {
     // What the sample shows with two bytes of it replaced; none where they are past its end.
     fn damaged(place: usize, low: u8, high: u8) -> Option<Shape> {
         let mut bytes = sample();
-        if place >= 16_421 {
-            return None;
-        }
-        bytes[place] = low;
-        bytes[place + 1] = high;
+        let at = bytes.get_mut(place..place.checked_add(2)?)?;
+        at.copy_from_slice(&[low, high]);
         Some(CardImage::open(&mut bytes).shape())
     }
 
@@ -155,9 +152,8 @@ mod tests {
     // What the first bytes of the sample show, with more after them if it is asked for more.
     fn cut(heap: Global, length: usize) -> Result<Shape, AllocError> {
         let mut bytes = vec![in heap; 0xFFu8; length]?;
-        for (byte, old) in bytes.iter_mut().zip(sample()) {
-            *byte = old;
-        }
+        let n = length.min(16_422);
+        bytes[..n].copy_from_slice(&sample()[..n]);
         Ok(CardImage::open(bytes.as_mut_slice()).shape())
     }
 
@@ -179,8 +175,8 @@ mod tests {
         let mut image = CardImage::open(&mut bytes);
         assert_eq!(rt; image.standing(at), None);
         assert_eq!(rt; image.lives(at), None);
-        assert!(rt; image.program(at, 0, &[0; 2048]) == Err(Refusal::Outside));
-        assert!(rt; image.read(at, 0, 0, &mut buffer) == Err(Refusal::Outside));
+        assert_eq!(rt; image.program(at, 0, &[0; 2048]), Err(Refusal::Outside));
+        assert_eq!(rt; image.read(at, 0, 0, &mut buffer), Err(Refusal::Outside));
         assert_eq!(rt; image.erase(at), Err(Refusal::Outside));
         assert!(rt; bytes.iter().all(|byte| *byte == OLD));
     }
@@ -193,13 +189,13 @@ mod tests {
         let at = BlockAddress::new(0, 1);
         let mut image = CardImage::open(&mut bytes);
         assert_eq!(rt; image.standing(at), Some(1));
-        assert!(rt; image.program(at, 2, &[1; 2047]) == Err(Refusal::Outside));
-        assert!(rt; image.program(at, 0, &[1; 2047]) == Err(Refusal::Length));
-        assert!(rt; image.program(at, 0, &[1; 2048]) == Err(Refusal::Order));
-        assert!(rt; image.read(at, 1, 4, &mut buffer) == Err(Refusal::Outside));
-        assert!(rt; image.read(at, 1, 3, &mut buffer) == Err(Refusal::Blank));
-        assert!(rt; image.program(at, 1, &[1; 2048]) == Ok(()));
-        assert!(rt; image.read(at, 1, 3, &mut buffer) == Ok(()));
+        assert_eq!(rt; image.program(at, 2, &[1; 2047]), Err(Refusal::Outside));
+        assert_eq!(rt; image.program(at, 0, &[1; 2047]), Err(Refusal::Length));
+        assert_eq!(rt; image.program(at, 0, &[1; 2048]), Err(Refusal::Order));
+        assert_eq!(rt; image.read(at, 1, 4, &mut buffer), Err(Refusal::Outside));
+        assert_eq!(rt; image.read(at, 1, 3, &mut buffer), Err(Refusal::Blank));
+        assert_eq!(rt; image.program(at, 1, &[1; 2048]), Ok(()));
+        assert_eq!(rt; image.read(at, 1, 3, &mut buffer), Ok(()));
         assert_eq!(rt; buffer, [1; 512]);
         for lives in [2, 1, 0] {
             assert_eq!(rt; image.erase(at), Ok(()));
@@ -224,9 +220,9 @@ mod tests {
         let mut bytes = vec![in rt.alloc(); OLD; 134_352_902]?;
         assert!(rt; CardImage::format(most, 65_535, bytes.as_mut_slice()));
         let mut image = CardImage::open(bytes.as_mut_slice());
-        assert!(rt; image.shape() == most);
+        assert_eq!(rt; image.shape(), most);
         assert_eq!(rt; image.lives(last), Some(65_535));
-        assert!(rt; image.program(last, 0, &[OLD; 2048]) == Ok(()));
+        assert_eq!(rt; image.program(last, 0, &[OLD; 2048]), Ok(()));
         assert_eq!(rt; image.standing(last), Some(1));
         assert_eq!(rt; image.erase(last), Ok(()));
         assert_eq!(rt; image.lives(last), Some(65_534));

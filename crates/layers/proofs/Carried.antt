@@ -12,10 +12,6 @@ pub record Carried (show : Memory → Memory) (m : Memory) (b k c l : ℕ) : Typ
   pub changes : (v : Block) → show (with_block m c l v) ≡ with_block (show m) b k v
 
 module _ {show : Memory → Memory} {m : Memory} {b k c l : ℕ} (at : Carried show m b k c l) where
-  -- what a call tells
-  pub told : {A : Type 0} (f : Spot → A) (x : A) → x ≡ f (spot m c l) → x ≡ f (spot (show m) b k)
-  told f x e = e ∙ sym (ap f at.sees)
-
   -- what a call makes of the flash
   pub done : (f : Spot → ℕ) (w : Block → Block) (m' : Memory) → m' ≡ changed m c l (f (spot m c l)) (w (m.at c l))
       → show m' ≡ changed (show m) b k (f (spot (show m) b k)) (w ((show m).at b k))

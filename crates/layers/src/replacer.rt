@@ -30,6 +30,7 @@ impl<F: Flash> Replacer<F> {
         ensures memory { shown_by result.shown result.rows (F.Flash.memory result.inner) ≡ replaced spares bad.now (F.Flash.memory inner) }
         ensures inner { result.inner ≡ inner }
     {
+        // two values of the type, and not one made of what the two ways give: where they meet, the proof of its facts gives up
         let Some(plan) = Plan::new(&inner, spares, bad) else {
             return Replacer {
                 inner,

@@ -76,10 +76,6 @@ mod tests {
         }
     }
 
-    fn address((bank, block): (usize, usize)) -> BlockAddress {
-        BlockAddress::new(bank, block)
-    }
-
     // What a replacer shows over a bare chip of this shape.
     fn replaced(
         heap: Global,
@@ -108,7 +104,12 @@ mod tests {
         assert_eq!(rt; replaced(rt.alloc(), below, 8, &[]), Ok(NO_BANKS));
         assert_eq!(rt; replaced(rt.alloc(), below, 9, &[]), Ok(NO_BANKS));
         assert_eq!(rt;
-            replaced(rt.alloc(), below, 2, &[(0, 2), (0, 6)].map(address)),
+            replaced(
+                rt.alloc(),
+                below,
+                2,
+                &[BlockAddress::new(0, 2), BlockAddress::new(0, 6)]
+            ),
             Ok(Shape::new(2, 6, 1))
         );
         assert_eq!(rt;
@@ -116,32 +117,64 @@ mod tests {
                 rt.alloc(),
                 below,
                 2,
-                &[(0, 2), (0, 6), (1, 7), (1, 0)].map(address)
+                &[
+                    BlockAddress::new(0, 2),
+                    BlockAddress::new(0, 6),
+                    BlockAddress::new(1, 7),
+                    BlockAddress::new(1, 0)
+                ]
             ),
             Ok(Shape::new(2, 6, 1))
         );
         assert_eq!(rt;
-            replaced(rt.alloc(), below, 2, &[(2, 0)].map(address)),
+            replaced(rt.alloc(), below, 2, &[BlockAddress::new(2, 0)]),
             Ok(NO_BANKS)
         );
         assert_eq!(rt;
-            replaced(rt.alloc(), below, 2, &[(0, 8)].map(address)),
+            replaced(rt.alloc(), below, 2, &[BlockAddress::new(0, 8)]),
             Ok(NO_BANKS)
         );
         assert_eq!(rt;
-            replaced(rt.alloc(), below, 2, &[(0, 2), (1, 2), (0, 2)].map(address)),
+            replaced(
+                rt.alloc(),
+                below,
+                2,
+                &[
+                    BlockAddress::new(0, 2),
+                    BlockAddress::new(1, 2),
+                    BlockAddress::new(0, 2)
+                ]
+            ),
             Ok(NO_BANKS)
         );
         assert_eq!(rt;
-            replaced(rt.alloc(), below, 2, &[(0, 2), (0, 3), (0, 4)].map(address)),
+            replaced(
+                rt.alloc(),
+                below,
+                2,
+                &[
+                    BlockAddress::new(0, 2),
+                    BlockAddress::new(0, 3),
+                    BlockAddress::new(0, 4)
+                ]
+            ),
             Ok(NO_BANKS)
         );
         assert_eq!(rt;
-            replaced(rt.alloc(), below, 2, &[(1, 2), (1, 6), (1, 3)].map(address)),
+            replaced(
+                rt.alloc(),
+                below,
+                2,
+                &[
+                    BlockAddress::new(1, 2),
+                    BlockAddress::new(1, 6),
+                    BlockAddress::new(1, 3)
+                ]
+            ),
             Ok(NO_BANKS)
         );
         assert_eq!(rt;
-            replaced(rt.alloc(), below, 0, &[(1, 7)].map(address)),
+            replaced(rt.alloc(), below, 0, &[BlockAddress::new(1, 7)]),
             Ok(NO_BANKS)
         );
     }
@@ -178,18 +211,39 @@ mod tests {
         let chip = BareChip::new(Shape::new(2, 3, 4), &mut bytes, &mut records);
         let mut flash = Whitener::new(chip);
         for page in 0..4 {
-            assert!(rt; flash.program(BlockAddress::new(1, 2), page, &[0xFF; 2048]) == Ok(()));
+            assert_eq!(rt;
+                flash.program(BlockAddress::new(1, 2), page, &[0xFF; 2048]),
+                Ok(())
+            );
         }
-        assert!(rt; flash.read(BlockAddress::new(1, 2), 3, 0, &mut buffer) == Ok(()));
-        assert!(rt; buffer[4] == 0xFF);
+        assert_eq!(rt;
+            flash.read(BlockAddress::new(1, 2), 3, 0, &mut buffer),
+            Ok(())
+        );
+        assert_eq!(rt; buffer[4], 0xFF);
         // A refused call writes to no buffer.
-        assert!(rt; flash.read(BlockAddress::new(1, 1), 0, 0, &mut buffer) == Err(Refusal::Blank));
-        assert!(rt; buffer[4] == 0xFF);
-        assert!(rt; flash.program(BlockAddress::new(2, 0), 0, &[0; 2048]) == Err(Refusal::Outside));
-        assert!(rt; flash.program(BlockAddress::new(1, 2), 4, &[0; 2047]) == Err(Refusal::Outside));
-        assert!(rt; flash.program(BlockAddress::new(1, 1), 1, &[0; 2047]) == Err(Refusal::Length));
-        assert!(rt; flash.program(BlockAddress::new(1, 1), 1, &[0; 2048]) == Err(Refusal::Order));
-        assert!(rt; bytes[23 * 2048 + 4] == 0xB7);
+        assert_eq!(rt;
+            flash.read(BlockAddress::new(1, 1), 0, 0, &mut buffer),
+            Err(Refusal::Blank)
+        );
+        assert_eq!(rt; buffer[4], 0xFF);
+        assert_eq!(rt;
+            flash.program(BlockAddress::new(2, 0), 0, &[0; 2048]),
+            Err(Refusal::Outside)
+        );
+        assert_eq!(rt;
+            flash.program(BlockAddress::new(1, 2), 4, &[0; 2047]),
+            Err(Refusal::Outside)
+        );
+        assert_eq!(rt;
+            flash.program(BlockAddress::new(1, 1), 1, &[0; 2047]),
+            Err(Refusal::Length)
+        );
+        assert_eq!(rt;
+            flash.program(BlockAddress::new(1, 1), 1, &[0; 2048]),
+            Err(Refusal::Order)
+        );
+        assert_eq!(rt; bytes[23 * 2048 + 4], 0xB7);
     }
 
     // Whether a quarter reads back as it was printed.
@@ -242,8 +296,12 @@ mod tests {
     ) -> Result<bool, Refusal> {
         let chip = BareChip::new(Shape::new(1, 8, 2), bytes, records);
         let pair = Pair::new(chip, CardImage::open(image));
-        let bad = [(0, 2), (0, 6), (2, 0), (2, 5)];
-        let bad = bad.map(address);
+        let bad = [
+            BlockAddress::new(0, 2),
+            BlockAddress::new(0, 6),
+            BlockAddress::new(2, 0),
+            BlockAddress::new(2, 5),
+        ];
         let mut stack = Whitener::new(Replacer::new(pair, 2, &bad));
         let at = BlockAddress::new(2, 0);
         let filled = fill(&mut stack)?;
@@ -275,14 +333,14 @@ mod tests {
             [2, 2, 0, 2, 2, 2, 0, 2]
         );
         // position 3 of page 1 of the shown block 2 of bank 0, which is found at 7
-        assert!(rt; bytes[15 * 2048 + 3] == 20 ^ 242);
+        assert_eq!(rt; bytes[15 * 2048 + 3], 20 ^ 242);
         let again = CardImage::open(&mut image);
-        assert!(rt; again.shape() == Shape::new(2, 8, 2));
+        assert_eq!(rt; again.shape(), Shape::new(2, 8, 2));
         assert_eq!(rt;
             array::from_fn(|block| again.standing(BlockAddress::new(1, block))),
             [0, 2, 2, 2, 2, 0, 0, 2].map(Some)
         );
-        assert!(rt; again.lives(BlockAddress::new(1, 6)) == Some(3));
-        assert!(rt; again.lives(BlockAddress::new(1, 7)) == Some(4));
+        assert_eq!(rt; again.lives(BlockAddress::new(1, 6)), Some(3));
+        assert_eq!(rt; again.lives(BlockAddress::new(1, 7)), Some(4));
     }
 }

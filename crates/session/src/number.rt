@@ -19,5 +19,5 @@ pub fn number(word: &[u8]) -> Option<usize>
         return None;
     }
     // digits are text, and alone fail to parse only where there are too many
-    Some(str::from_utf8(word).ok()?.parse().unwrap_or(usize::MAX))
+    Some(str::from_utf8(word).unwrap().parse().unwrap_or(usize::MAX))
 }

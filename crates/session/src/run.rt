@@ -1,4 +1,4 @@
-// A line, run on a card.
+// A line, run on a card. The heap is handed to each function that allocates, as the library does it.
 ghost use Rattle.std.specs.Prelude.{◌≡◌, replicate, IfOk, string_bytes};
 ghost use Rattle.flatcard.specs.Calls.{report};
 ghost use Rattle.zones.specs.View.{flat_card, surveyed};

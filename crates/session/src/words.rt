@@ -3,7 +3,9 @@ ghost use Rattle.std.specs.Prelude.{◌≡◌, not, position};
 ghost use Rattle.std.specs.Iterator.{YieldsFirstRef, item_count};
 ghost use Rattle.session.specs.Lines.{white, words, words_left};
 
-// What is left of a line, from which words are taken one by one. What it stands for is said by the iterator's own members.
+// What is left of a line, from which words are taken one by one. What it stands for is said by the iterator's own
+// members. A type of its own, and no chain of `split` and `filter`: that would have the type of two closures, which no
+// contract can name.
 #[derive(Drop)]
 pub struct Words<'a> {
     rest: &'a [u8],

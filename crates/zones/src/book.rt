@@ -11,8 +11,8 @@ use crate::zone::{Slot, Zone};
 use std::array;
 
 // The free block groups of a chip group, first in first out: where the front stands in the chip group's stretch of
-// the table of groups, and how many there are from there on, going round at the stretch's end. It is only these two
-// numbers while no call takes a group; the calls that do will lend the stretch to a ring.
+// the table of groups, and how many there are from there on, going round at the stretch's end. A front and a count,
+// since one table of 64 serves all chip groups, where a ring for each would need sixteen of that size.
 #[derive(Clone, Copy)]
 pub struct Row {
     pub front: usize,

@@ -37,7 +37,7 @@ impl Geometry {
         if !(1..=4).contains(&limit) || !is_width(width) {
             return None;
         }
-        if shape.banks % width != 0 || shape.banks == 0 || shape.blocks <= limit {
+        if !shape.banks.is_multiple_of(width) || shape.banks == 0 || shape.blocks <= limit {
             return None;
         }
         let chips = shape.banks / width;

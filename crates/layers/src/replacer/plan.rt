@@ -8,6 +8,8 @@ ghost use Rattle.layers.specs.ReplacedPlaces.{place_in};
 
 use flash::{BlockAddress, Flash, Shape};
 
+// What is asked before there is a plan, of the parts that it will hold.
+
 // Whether the list has the block.
 fn is_bad(bad: &[BlockAddress], bank: usize, block: usize) -> bool
     ensures { result ≡ is_bad bad.now bank block }
@@ -26,7 +28,10 @@ fn count_bad(bad: &[BlockAddress], bank: usize, end: usize) -> usize
 fn listed(below: Shape, bad: &[BlockAddress]) -> bool
     ensures { result ≡ listed below.banks below.blocks bad.now }
 {
-    bad.iter().enumerate().all(|(i, at)| below.contains(*at) && !bad[i + 1..].contains(at))
+    match bad {
+        [] => true,
+        [at, rest @ ..] => below.contains(*at) && !rest.contains(at) && listed(below, rest),
+    }
 }
 
 // Whether a bank has a good spare for each of its bad shown blocks: just where it has no more bad blocks in all than spares.
