@@ -97,7 +97,7 @@ pub trait Flash {
     fn lives(&self, at: BlockAddress) -> Option<u16>
         ensures { result ≡ lives_at (spot (memory self.now) at.bank at.block) };
 
-    // Fills a sector's buffer with one quarter of a standing page.
+    // Fills a sector's buffer with one quarter of a standing page. The two are two numbers, since a program has a page alone.
     fn read(
         &self,
         at: BlockAddress,

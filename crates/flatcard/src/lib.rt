@@ -5,7 +5,8 @@
 ghost use Rattle.flatcard.specs.Cases.{WorkedCases};
 ghost use Rattle.flatcard.specs.Laws.{Laws};
 
-// The worked cases hold of the definitions that the contracts of the card cite.
+// The worked cases hold of the definitions that the contracts of the card cite. The crate `cases` has them as a part of its own
+// statement; they are carried here too, so that this crate is not proved without them.
 pub fn worked_cases_hold()
     ensures { WorkedCases }
 {}

@@ -4,7 +4,7 @@ use Rattle.std.proofs.Common.{ap, arith}
 use Rattle.flash.specs.Maps.{whitened_byte}
 use Rattle.flash.specs.Memory.{Block, Bounds, Memory, SoundBlock}
 
--- f of each element's index and the element, the first having the index n
+-- f of each element's index and the element, the first having the index n; the library's way to say it is a map over pairs, and has no laws of parts
 abbrev pub indexed : {X Y : Type 0} → (ℕ → X → Y) → ℕ → List X → List Y
 indexed f n [] = []
 indexed f n (x ∷ xs) = f n x ∷ indexed f (suc n) xs
