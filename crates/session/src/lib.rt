@@ -8,5 +8,5 @@ pub mod run;
 pub mod words;
 
 pub use command::{Command, NoCommand};
-pub use reply::Reply;
+pub use reply::{Reply, ReportText};
 pub use run::answer;

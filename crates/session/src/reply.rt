@@ -1,7 +1,7 @@
 // The answers to lines, and their texts.
-ghost use Rattle.std.specs.Prelude.{◌≡◌, ◌-◌, Some};
-ghost use Rattle.zones.specs.Numbers.{refusal_number};
-ghost use Rattle.session.specs.Replies.{shown};
+ghost use Rattle.std.specs.Prelude.{◌≡◌, ◌-◌, map, Some};
+ghost use Rattle.zones.specs.Numbers.{line_of, number_of, refusal_number};
+ghost use Rattle.session.specs.Replies.{report_text, shown};
 
 use std::fmt;
 use zones::{CardRefusal, Done, ZoneReport};
@@ -24,6 +24,28 @@ fn code(refusal: CardRefusal) -> usize
     usize::from(refusal) - 10
 }
 
+// What a report answers, with the list that it was to fill.
+#[derive(Clone, Copy, Debug)]
+pub struct ReportText<'a> {
+    pub answer: Result<(), CardRefusal>,
+    pub zones: &'a [ZoneReport],
+}
+
+impl<'a> fmt::Display for ReportText<'a> {
+    ghost output = { λ report. Some (report_text (number_of report.answer, map line_of report.zones.now)) };
+
+    fn fmt<W: fmt::Write>(&self, f: &mut fmt::Formatter<W>) -> fmt::Result {
+        if let Err(refusal) = self.answer {
+            return write!(f, "{}", code(refusal));
+        }
+        write!(f, "0")?;
+        for zone in self.zones {
+            write!(f, " {}/{}", usize::from(zone.state), zone.pointer)?;
+        }
+        Ok(())
+    }
+}
+
 impl fmt::Display for Reply {
     ghost output = { λ reply. Some (shown reply) };
 
@@ -35,11 +57,11 @@ impl fmt::Display for Reply {
             }
             Reply::Work(Err(refusal)) => write!(f, "{} 0 0 0", code(*refusal)),
             Reply::Zones(Ok(zones)) => {
-                write!(f, "0")?;
-                for zone in zones {
-                    write!(f, " {}/{}", usize::from(zone.state), zone.pointer)?;
-                }
-                Ok(())
+                let text = ReportText {
+                    answer: Ok(()),
+                    zones: zones.as_slice(),
+                };
+                write!(f, "{text}")
             }
             Reply::Zones(Err(refusal)) => write!(f, "{}", code(*refusal)),
         }

@@ -2,7 +2,7 @@ use Rattle.std.proofs.Common.{◌++◌, map, take, codes}
 use Rattle.std.specs.Fmt.{HasWritten, IsPlainFormatter}
 use Rattle.zones.specs.Numbers.{line_of}
 use Rattle.session.specs.Replies.{lines_text}
-use Rattle.session.proofs.reply.ReplyDisplay.fmt.Given as goal
+use Rattle.session.proofs.reply.ReportTextDisplay.fmt.Given as goal
 
 abbrev pub invariant-loop-zone : goal.invariant-loop-zone
 invariant-loop-zone g l =
