@@ -13,10 +13,13 @@ mod tests {
     // A byte that no blank image has where these tests look.
     const OLD: u8 = 7;
 
-    // What formatting answers over so many bytes, and whether it left every byte: two facts, of which each is asked.
+    // What formatting answers over so many bytes of those that there are, and whether it left every byte of them: two facts,
+    // of which each is asked.
     fn formatted(heap: Global, shape: Shape, length: usize) -> Result<(bool, bool), AllocError> {
-        let mut bytes = vec![in heap; OLD; length]?;
-        let answer = CardImage::format(shape, 3, bytes.as_mut_slice());
+        let mut room = vec![in heap; OLD; 133_520]?;
+        let bytes = room.as_mut_slice();
+        let lent = length.min(bytes.len());
+        let answer = CardImage::format(shape, 3, &mut bytes[..lent]);
         Ok((answer, bytes.iter().all(|byte| *byte == OLD)))
     }
 

@@ -1,5 +1,6 @@
 mod Carried
 mod Indexed
+mod Moved
 mod ReplacedApart
 mod ReplacedLists
 mod Whites

@@ -1,11 +1,12 @@
 -- What the calls of a whitened flash see and change.
-use Rattle.std.proofs.Common.{◌≡◌, ℕ, ◌+◌, ◌*◌, ◌%◌, ◌<◌, List, [], length, get_or, take, drop, sym, ap, ◌∙◌, arith}
+use Rattle.std.proofs.Common.{◌≡◌, ℕ, ◌+◌, ◌*◌, ◌%◌, ◌<◌, List, [], length, get_or, take, drop, refl, sym, ap, ◌∙◌, arith}
 use lib.Bits.{bit_xor, xor_assoc, xor_self, xor_zero_r}
 use Rattle.std.proofs.lemmas.Bool.Decides.{nat_tests}
-use Rattle.flash.specs.Calls.{filled, programmed, quarter_of, read_number, spot}
-use Rattle.flash.specs.Memory.{Memory}
+use Rattle.flash.specs.Calls.{filled, programmed, quarter_of, read_number, spot, with_block}
+use Rattle.flash.specs.Memory.{Block, Memory}
+use Rattle.flash.proofs.Calls.{same_memory}
 use Rattle.flash.specs.Maps.{mask, whitened_byte}
-use Rattle.layers.specs.Whitened.{get_or-indexed, indexed, length-indexed, whitened, whitened_page, whitened_run}
+use Rattle.layers.specs.Whitened.{get_or-indexed, indexed, length-indexed, whitened, whitened_block, whitened_page, whitened_run}
 use Rattle.layers.proofs.Indexed.{indexed_drop, indexed_push, indexed_same, indexed_take, indexed_twice}
 
 -- a block has as many standing pages, and a page as many bytes, as below: what a call answers goes by these
@@ -25,6 +26,11 @@ whitened_quarter b k p q page =
 
 quarter_run : (b k p q x : ℕ) (page : List ℕ) → x ≡ mask b k p 0 → whitened_run x (quarter_of page q) ≡ quarter_of (whitened_page b k p page) q
 quarter_run b k p q x page is = run_is b k p (q * 512) x (quarter_of page q) (omega (arith, is)) ∙ sym (whitened_quarter b k p q page)
+
+-- a change of a block below is a change of that block alone
+pub whitened_with : (m : Memory) (b k : ℕ) (v : Block) → whitened (with_block m b k v) ≡ with_block (whitened m) b k (whitened_block b k v)
+whitened_with m b k v =
+    same_memory (whitened (with_block m b k v)) (with_block (whitened m) b k (whitened_block b k v)) refl refl refl (λ c l. grind (arith, nat_tests))
 
 module _ (m : Memory) (b k p x : ℕ) (is : x ≡ mask b k p 0) where
   -- the buffer after a read that is not refused, where the read below left `stored` in it

@@ -1,16 +1,8 @@
-use Rattle.std.proofs.Common.{◌≡◌, Some, sym, ◌∙◌, arith}
-use Rattle.std.proofs.lemmas.Bool.Decides.{nat_tests}
+use Rattle.std.proofs.Common.{sym, ◌∙◌}
 use Rattle.flash.specs.Calls.{program_number, written}
-use Rattle.flash.specs.Memory.{Memory}
-use Rattle.flash.specs.declared.BlockAddress.{BlockAddress}
-use Rattle.layers.specs.Paired.{paired, side_of}
-use Rattle.layers.specs.declared.pair.Side.TheVariants.{Second}
-use Rattle.layers.proofs.Carried.{Carried, done}
+use Rattle.layers.proofs.Carried.{done}
+use Rattle.layers.proofs.Moved.{in_second}
 use Rattle.layers.proofs.pair.PairFlash.program.Goals as goal
-
--- a block that lies on the second flash
-in_second : (m n : Memory) (at to : BlockAddress) → side_of m n at ≡ Some (Second to) → Carried (paired m) n at.bank at.block to.bank to.block
-in_second m n at to side = record { sees = grind (arith, nat_tests); changes = λ v. grind (arith, nat_tests) }
 
 pub returns-in-Second-clause-after : goal.returns-in-Second-clause-after
 returns-in-Second-clause-after g c =
