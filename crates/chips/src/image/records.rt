@@ -64,12 +64,12 @@ impl<'a> BlockView<'a> {
 }
 
 // Writes the data of a page and then its mark, so that a cut between the two leaves the page blank.
-pub(super) fn write_page(block: &mut [u8], page: usize, data: &[u8])
-    requires { (4 + page * 2050 + 2050 ≤ length block.old) × (length data.now ≡ 2048) }
-    ensures { block.new ≡ with_page block.old page data.now }
+pub(super) fn write_page(block: &mut [u8], page: usize, bytes: &[u8])
+    requires { (4 + page * 2050 + 2050 ≤ length block.old) × (length bytes.now ≡ 2048) }
+    ensures { block.new ≡ with_page block.old page bytes.now }
 {
     let first = BLOCK_HEAD + page * PAGE_RECORD;
-    block[first + MARK..first + PAGE_RECORD].copy_from_slice(data);
+    block[first + MARK..first + PAGE_RECORD].copy_from_slice(bytes);
     block[first..first + MARK].copy_from_slice(&STANDING_MARK);
 }
 
