@@ -1,5 +1,5 @@
 -- What a bare chip shows of one block, and of all blocks after one has changed.
-use Rattle.std.proofs.Common.{◌≡◌, ℕ, ◌+◌, ◌*◌, ◌<◌, ◌≤◌, true, ◌≢◌, List, length, get_or, set, refl, sym, ap, ◌∙◌, arith}
+use Rattle.std.proofs.Common.{◌≡◌, ℕ, ◌+◌, ◌*◌, ◌<◌, ◌≤◌, true, ◌≢◌, List, length, get_or, set, Some, refl, sym, ap, ◌∙◌, arith}
 use Rattle.std.specs.Prelude.{nat_lt}
 use Rattle.std.proofs.lemmas.List.{get_or_default, get_or-set_same, get_or-set_other}
 use Rattle.std.proofs.lemmas.List.Folds.{list_all_at}
@@ -7,7 +7,7 @@ use Rattle.std.proofs.lemmas.List.FromFn.{length-map-range_with_len}
 use Rattle.std.proofs.lemmas.Bool.{and_parts, ltb-true}
 use Rattle.std.proofs.lemmas.Bool.Decides.{nat_tests}
 use Rattle.std.proofs.lemmas.Nat.{mul-le}
-use Rattle.flash.specs.Calls.{Spot, spot, with_block}
+use Rattle.flash.specs.Calls.{Spot, lives_at, spot, with_block}
 use Rattle.flash.specs.Memory.{in_shape}
 use Rattle.flash.specs.declared.Shape.{Shape}
 use Rattle.chips.specs.Bounded.{sizes_of}
@@ -69,6 +69,9 @@ module _ {c : Parts} {b k i : ℕ} (whole : Whole c) (found : Found c.shape b k 
               ∙ (length-map-range_with_len (λ p. page_at c.bytes (i * c.shape.pages + p)) 0 (record_at c.records i).standing
               ∙ ap (λ r. r.standing) (sym found_record));
         }
+
+    pub found_lives : lives_at (spot (laid_out c) b k) ≡ Some (get_or c.records i d).lives
+    found_lives = ap lives_at found_spot ∙ ap (λ r. Some r.lives) (sym found_record)
 
   -- a chip with another record for the block, and bytes that leave the pages of the other blocks
   module _ (bytes : List ℕ) (r : BlockRecord)

@@ -1,12 +1,11 @@
 -- What the calls answer of a block that the chip shows, and what they make of the chip.
 use Rattle.std.proofs.Common.{◌≡◌, ℕ, ◌+◌, ◌-◌, ◌*◌, ◌<◌, ◌≤◌, List, [], ◌∷◌, ◌++◌, length, get_or, take, drop, set, sym, refl, ap, ◌∙◌, arith}
 use Rattle.std.proofs.lemmas.List.FromFn.{get_or-map-range_with_len}
-use Rattle.flash.specs.Calls.{emptied, erase_number, quarter_of, spot, with_block, written}
-use Rattle.flash.proofs.Calls.{erase_done}
+use Rattle.flash.specs.Calls.{emptied, quarter_of, spot, with_block, written}
 use Rattle.chips.specs.Bounded.{page_fits}
 use Rattle.chips.specs.Layout.{Found, Parts, Whole, block_count, laid_out, made_of, page_at, pages_at, record_at}
 use Rattle.chips.specs.declared.record.BlockRecord.{BlockRecord}
-use Rattle.chips.proofs.Blocks.{found_spot, laid_out_changed, seen}
+use Rattle.chips.proofs.Blocks.{found_spot, laid_out_changed}
 use Rattle.chips.proofs.Pages.{pages_at_other, pages_at_same, put_page, quarter_at}
 
 module _ {c : Parts} {b k i : ℕ} (whole : Whole c) (found : Found c.shape b k i) where
@@ -41,9 +40,6 @@ module _ {c : Parts} {b k i : ℕ} (whole : Whole c) (found : Found c.shape b k 
       ∙ quarter_at c.bytes (i * c.shape.pages + p) q part)
 
   -- ---- erase
-  pub found_erases : 0 < kept.lives → erase_number (spot (laid_out c) b k) ≡ 0
-  found_erases h = ap erase_number (found_spot whole found) ∙ erase_done (seen whole found) refl h
-
   pub laid_out_erased : (r : BlockRecord) → r.standing ≡ 0 → r.lives ≡ kept.lives - 1
       → laid_out (made_of c.shape c.bytes (set c.records i r)) ≡ with_block (laid_out c) b k (emptied ((laid_out c).at b k))
   laid_out_erased r none fewer =

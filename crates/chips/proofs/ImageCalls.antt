@@ -26,7 +26,7 @@ standing_some v n e =
     cond_both v.here (Some (length v.block.pages)) None (λ o. o ≡ Some n → Shows v v.depth n)
     (λ here same. record { here = here; depth = refl; stands = cc }) (λ _ same. absurd cc) e
 
-pub lives_some : (v : Spot) (n : ℕ) → lives_at v ≡ Some n → (v.here ≡ true) × (v.block.lives ≡ n)
+lives_some : (v : Spot) (n : ℕ) → lives_at v ≡ Some n → (v.here ≡ true) × (v.block.lives ≡ n)
 lives_some v n e = cond_both v.here (Some v.block.lives) None (λ o. o ≡ Some n → (v.here ≡ true) × (v.block.lives ≡ n)) (λ here same. (here, cc)) (λ _ same. absurd cc) e
 
 -- the bytes are `now` after a call: their header names the shape still, they are these, and the flash that they show is m
@@ -118,12 +118,14 @@ module _ {s : Shape} {bytes : List ℕ} {b k : ℕ} {place : Range ℕ} (found :
       (written ((stored s bytes).at b k) page) (block_written r page s.pages p (long_held found.shown) low long next ∙ sym (ap (λ v. written v.block page) (shown_spot found.shown)))
       (after new) (after_is new (with_page r p page) (e ∙ ap (λ x. with_page x p page) old_held) size)
 
-  pub erase_makes : (n : ℕ) (new : List ℕ) → ((spot (stored s bytes) b k).here ≡ true) × ((spot (stored s bytes) b k).block.lives ≡ n) → 0 < n → new ≡ blank_block s (n - 1)
+  pub erase_makes : (n left : ℕ) (new : List ℕ) → lives_at (spot (stored s bytes) b k) ≡ Some n → n ≡ left + 1 → new ≡ blank_block s left
       → Makes s (after new) (erased_bytes s bytes b k) (erased (stored s bytes) b k)
-  erase_makes n new (here, left) some e =
+  erase_makes n left new some passed e =
       let lives = lives_in (held found.shown) in
-      let is : n ≡ lives = sym left ∙ ap (λ v. v.block.lives) (shown_spot found.shown) in
+      let (here, has) = lives_some (spot (stored s bytes) b k) n some in
+      let is : n ≡ lives = sym has ∙ ap (λ v. v.block.lives) (shown_spot found.shown) in
+      let less : left ≡ lives - 1 = omega arith in
       makes found.shown named (blank_block s (lives - 1)) (length-blank s (lives - 1)) (λ _. fits_blank s (lives - 1))
       (erase_number (spot (stored s bytes) b k)) (erase_done (spot (stored s bytes) b k) here (omega arith))
       (emptied ((stored s bytes).at b k)) (block_blank s (lives - 1) (omega arith) ∙ sym (ap (λ v. emptied v.block) (shown_spot found.shown)))
-      (after new) (after_is new (blank_block s (lives - 1)) (e ∙ ap (λ l. blank_block s (l - 1)) is) (length-blank s (lives - 1)))
+      (after new) (after_is new (blank_block s (lives - 1)) (e ∙ ap (blank_block s) less) (length-blank s (lives - 1)))

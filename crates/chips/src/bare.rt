@@ -7,7 +7,7 @@ ghost use Rattle.flash.specs.Memory.{in_shape};
 ghost use Rattle.flash.specs.Numbers.{answer};
 ghost use Rattle.chips.specs.Layout.{Found, Whole, counts_fit, made_of, new_memory, sizes_fit};
 
-use crate::checks::{check_program, check_read};
+use crate::checks::{check_erase, check_program, check_read};
 use crate::record::BlockRecord;
 use crate::shapes::shape_fits;
 use flash::{BlockAddress, Flash, NO_BANKS, PAGE, QUARTER, Refusal, Shape};
@@ -129,11 +129,8 @@ impl<'a> Flash for BareChip<'a> {
         ensures refused { OnErr result (parts_of self.new ≡ parts_of self.old) }
     {
         let i = self.number_of(at).ok_or(Refusal::Outside)?;
-        let lives = self.records[i].lives;
-        if lives == 0 {
-            return Err(Refusal::Worn);
-        }
-        self.records[i] = BlockRecord::blank(lives - 1);
+        let left = check_erase(self.records[i].lives)?;
+        self.records[i] = BlockRecord::blank(left);
         Ok(())
     }
 }

@@ -1,6 +1,6 @@
-// The checks that a read and a program make of a block that is there, in the order of the refusals. Every chip makes them.
-ghost use Rattle.std.specs.Prelude.{◌≡◌, ℕ, ◌<◌, List, length, OnOk};
-ghost use Rattle.flash.specs.Calls.{Spot, program_number, read_number};
+// The checks that a read, a program and an erase make of a block that is there, in the order of the refusals. Every chip makes them.
+ghost use Rattle.std.specs.Prelude.{◌≡◌, ℕ, ◌+◌, ◌<◌, List, length, Some, IfOk, OnOk};
+ghost use Rattle.flash.specs.Calls.{Spot, erase_number, lives_at, program_number, read_number};
 ghost use Rattle.flash.specs.Numbers.{answer};
 ghost use Rattle.chips.specs.Checks.{Shows};
 
@@ -49,4 +49,12 @@ pub(crate) fn check_program(
         return Err(Refusal::Order);
     }
     Ok(())
+}
+
+// An erase of a block that has so many lives: answers how many are left to it.
+pub(crate) fn check_erase(lives: u16) -> Result<u16, Refusal>
+    ensures answer { (s : Spot) → lives_at s ≡ Some lives → answer result ≡ erase_number s }
+    ensures passed { IfOk result (λ left. lives ≡ left + 1) }
+{
+    lives.checked_sub(1).ok_or(Refusal::Worn)
 }

@@ -3,7 +3,7 @@ ghost use Rattle.std.specs.Prelude.{◌≡◌, true, false, if◌then◌else◌,
 ghost use Rattle.flash.specs.Memory.{in_shape};
 ghost use Rattle.chips.specs.ImageLayout.{FoundAt, SeenAt, named_shape};
 
-use crate::checks::{check_program, check_read};
+use crate::checks::{check_erase, check_program, check_read};
 use crate::image::check::image_shape;
 use crate::image::marks::{block_size, block_start};
 use crate::image::records::{BlockView, write_blank, write_page};
@@ -127,11 +127,9 @@ impl<'a> Flash for CardImage<'a> {
         ensures reopens { Reopens self.new }
     {
         let lives = self.lives(at).ok_or(Refusal::Outside)?;
-        if lives == 0 {
-            return Err(Refusal::Worn);
-        }
+        let left = check_erase(lives)?;
         let Range { start, end } = self.place_of(at);
-        write_blank(&mut self.bytes[start..end], lives - 1);
+        write_blank(&mut self.bytes[start..end], left);
         Ok(())
     }
 }
