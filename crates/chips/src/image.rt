@@ -55,9 +55,8 @@ impl<'a> CardImage<'a> {
         if !self.shape.contains(at) {
             return None;
         }
-        let Range { start, end } = self.place_of(at);
         Some(BlockView {
-            bytes: &self.bytes[start..end],
+            bytes: &self.bytes[self.place_of(at)],
         })
     }
 }
@@ -114,8 +113,8 @@ impl<'a> Flash for CardImage<'a> {
     {
         let standing = self.standing(at).ok_or(Refusal::Outside)?;
         check_program(self.shape.pages, standing, page, bytes.len())?;
-        let Range { start, end } = self.place_of(at);
-        write_page(&mut self.bytes[start..end], page, bytes);
+        let place = self.place_of(at);
+        write_page(&mut self.bytes[place], page, bytes);
         Ok(())
     }
 
@@ -128,8 +127,8 @@ impl<'a> Flash for CardImage<'a> {
     {
         let lives = self.lives(at).ok_or(Refusal::Outside)?;
         let left = check_erase(lives)?;
-        let Range { start, end } = self.place_of(at);
-        write_blank(&mut self.bytes[start..end], left);
+        let place = self.place_of(at);
+        write_blank(&mut self.bytes[place], left);
         Ok(())
     }
 }

@@ -18,10 +18,7 @@ pub(super) fn image_sizes_fit(shape: Shape, bytes: &[u8]) -> bool
 pub(super) fn image_shape(bytes: &[u8]) -> Option<Shape>
     ensures { result ≡ (if is_image bytes.now then Some (shape_in bytes.now) else None) }
 {
-    if !bytes.starts_with(&HEADER_MARK) {
-        return None;
-    }
-    let [_, _, _, banks, blocks, pages, records @ ..] = bytes else {
+    let [banks, blocks, pages, records @ ..] = bytes.strip_prefix(&HEADER_MARK)? else {
         return None;
     };
     let shape = Shape {

@@ -2,7 +2,7 @@
 ghost use Rattle.std.specs.Prelude.{◌≡◌, ◌≤◌};
 ghost use Rattle.chips.specs.ImageLayout.{block_size, block_start};
 
-use flash::Shape;
+use flash::{PAGE, Shape};
 
 // At the start of an image: its mark, and the version of its format.
 pub(super) const HEADER_MARK: [u8; 3] = [0x43, 0x49, 0x01];
@@ -17,16 +17,16 @@ pub(super) const STANDING_MARK: [u8; 2] = [0x50, 0x47];
 pub(super) const BLANK_MARK: [u8; 2] = [0xFF, 0xFF];
 
 // The bytes of the mark of a block or of a page.
-pub(super) const MARK: usize = 2;
+pub(super) const MARK: usize = STANDING_MARK.len();
 
-// The bytes before the first block.
-pub(super) const HEADER: usize = 6;
+// The bytes before the first block: the mark, and three for the shape.
+pub(super) const HEADER: usize = HEADER_MARK.len() + 3;
 
-// The bytes before the pages of a block: its mark and its lives.
-pub(super) const BLOCK_HEAD: usize = 4;
+// The bytes before the pages of a block: its mark, and two for its lives.
+pub(super) const BLOCK_HEAD: usize = BLOCK_MARK.len() + 2;
 
 // The bytes of a page with its mark.
-pub(super) const PAGE_RECORD: usize = 2050;
+pub(super) const PAGE_RECORD: usize = MARK + PAGE;
 
 // The bytes of a block with its mark and its lives.
 pub(super) fn block_size(shape: Shape) -> usize

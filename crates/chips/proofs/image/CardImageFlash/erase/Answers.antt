@@ -17,7 +17,7 @@ returns-in_err-left c =
 
 pub invariant_of-self : goal.invariant_of-self
 invariant_of-self c =
-    let found = c.place_of-start.ensures in
+    let found = c.place_of-place.ensures in
     let named = c.args.self.now.named in
     let some = sym c.lives.ensures ∙ c.in_ok-lives.ensures.ok_part in
     let made = erase_makes found named _ _ c.write_blank.new.block some c.in_ok-left.ensures.passed (c.write_blank.ensures _ (long_old found named)) in
@@ -25,7 +25,7 @@ invariant_of-self c =
 
 pub returns : goal.returns
 returns c =
-    let found = c.place_of-start.ensures in
+    let found = c.place_of-place.ensures in
     let named = c.args.self.now.named in
     let some = sym c.lives.ensures ∙ c.in_ok-lives.ensures.ok_part in
     let made = erase_makes found named _ _ c.write_blank.new.block some c.in_ok-left.ensures.passed (c.write_blank.ensures _ (long_old found named)) in
