@@ -2,35 +2,18 @@
 use Rattle.std.proofs.Common.{◌≡◌, ℕ, ◌+◌, ◌*◌, ◌<◌, ◌≤◌, true, ◌&&◌, eqb, nat_eq, ◌≢◌, List, [], ◌∷◌, map, length, get_or, take, drop, Bool, MatchBool, false, subst, Decides, inl, inr, sym, refl, ap, ◌∙◌, ⊎_elim, arith}
 use Rattle.std.specs.Cmp.Lexicographic.{pointwise}
 use Rattle.std.specs.List.{AllWithin, HoldsAt, range_with_len}
-use Rattle.std.proofs.lemmas.Bool.{and_from, and_parts, both_ways, cases_Bool, cases_eq, cases_lt, cond-false, cond-true}
+use Rattle.std.proofs.lemmas.Bool.{and_from, and_parts, both_ways, cases_Bool, cases_eq, cases_lt, cond-true}
 use Rattle.std.proofs.lemmas.List.{drop-drop, take_all}
 use Rattle.std.proofs.lemmas.List.FromFn.{get_or-map-range_with_len, length-map-range_with_len}
 use Rattle.std.proofs.lemmas.Nat.{mul-le}
 use Rattle.flash.specs.Calls.{with_block}
-use Rattle.flash.specs.Memory.{no_banks}
 use Rattle.flash.specs.declared.Shape.{Shape}
-use Rattle.chips.specs.ImageBounded.{Named, block_within, empty_stored, named_by_image, block_long}
-use Rattle.chips.specs.ImageLayout.{block_in, block_size, block_start, header_mark, image_length, image_sizes_fit, is_image, named_shape, opened, block_record, block_fits, blocks_fit, shape_in, stored, with_record}
-use Rattle.chips.specs.ImageMemory.{Reopens, bytes_of}
+use Rattle.chips.specs.ImageBounded.{Named, block_within, block_long}
+use Rattle.chips.specs.ImageLayout.{block_in, block_size, block_start, header_mark, image_length, image_sizes_fit, is_image, named_shape, block_record, block_fits, blocks_fit, shape_in, stored, with_record}
 use Rattle.chips.specs.Layout.{block_count, shape_fits}
 use Rattle.chips.specs.Shapes.{no_shape}
-use Rattle.chips.specs.declared.image.CardImage.{CardImage}
 use Rattle.chips.proofs.Numbered.{numbered_changed}
 use Rattle.chips.proofs.Stretches.{each_below, length-put, put_apart, put_outside, put_part}
-
--- an image with the shape that opening finds shows what opening shows
-pub reopens : (s : Shape) (bytes : List ℕ) → s ≡ named_shape bytes → opened bytes ≡ stored s bytes
-reopens s bytes named =
-    ⊎_elim
-    (λ yes. cond-true (is_image bytes) _ no_banks yes ∙ ap (λ v. stored v bytes) (sym (named_by_image s bytes named yes).shape))
-    (λ no.
-    cond-false (is_image bytes) _ no_banks no
-    ∙ (sym (empty_stored bytes) ∙ ap (λ v. stored v bytes) (sym (named ∙ cond-false (is_image bytes) (shape_in bytes) no_shape no))))
-    (cases_Bool (is_image bytes))
-
--- opening the bytes of an image again shows what it shows
-pub image_reopens : (image : CardImage) → Reopens image
-image_reopens image = reopens image.shape (bytes_of image) image.named
 
 pub blocks_each : (s : Shape) (bytes : List ℕ) (n : ℕ) → Decides (blocks_fit s bytes n) ((i : ℕ) → i < n → block_fits (block_record s bytes i) s.pages ≡ true)
 blocks_each s bytes n = each_below (blocks_fit s bytes) (λ i. block_fits (block_record s bytes i) s.pages) refl (λ _. refl) n

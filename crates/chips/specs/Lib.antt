@@ -6,4 +6,5 @@ pub mod Bounded
 pub mod ImageLayout
 pub mod ImageMemory
 pub mod ImageBounded
+pub mod ImageReopens
 pub mod ImageBlank

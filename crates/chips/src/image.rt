@@ -61,13 +61,12 @@ impl<'a> CardImage<'a> {
     }
 }
 
-#[tactic(auto, using(crate::proofs::ImageChanged::image_reopens))]
 impl<'a> Flash for CardImage<'a> {
     ghost use Rattle.flash.specs.Calls.{erase_number, erased, program_number, programmed, spot};
     ghost use Rattle.flash.specs.Numbers.{answer};
     ghost use Rattle.chips.specs.ImageBounded.{image_bounds};
     ghost use Rattle.chips.specs.ImageLayout.{erased_bytes, programmed_bytes};
-    ghost use Rattle.chips.specs.ImageMemory.{Reopens, bytes_of, memory_of_image};
+    ghost use Rattle.chips.specs.ImageMemory.{bytes_of, memory_of_image};
 
     ghost memory = { memory_of_image };
 
@@ -109,7 +108,6 @@ impl<'a> Flash for CardImage<'a> {
         ensures after { memory_of_image self.new ≡ programmed (memory_of_image self.old) at.bank at.block page bytes.now }
         ensures shape { self.new.shape ≡ self.old.shape }
         ensures bytes { bytes_of self.new ≡ programmed_bytes self.old.shape (bytes_of self.old) at.bank at.block page bytes.now }
-        ensures reopens { Reopens self.new }
     {
         let standing = self.standing(at).ok_or(Refusal::Outside)?;
         check_program(self.shape.pages, standing, page, bytes.len())?;
@@ -123,7 +121,6 @@ impl<'a> Flash for CardImage<'a> {
         ensures after { memory_of_image self.new ≡ erased (memory_of_image self.old) at.bank at.block }
         ensures shape { self.new.shape ≡ self.old.shape }
         ensures bytes { bytes_of self.new ≡ erased_bytes self.old.shape (bytes_of self.old) at.bank at.block }
-        ensures reopens { Reopens self.new }
     {
         let lives = self.lives(at).ok_or(Refusal::Outside)?;
         let left = check_erase(lives)?;

@@ -1,6 +1,6 @@
 use Rattle.std.proofs.Common.{◌≡◌, refl, rules, sym}
 use Rattle.chips.specs.ImageLayout.{named_shape}
-use Rattle.chips.proofs.ImageChanged.{reopens}
+use Rattle.chips.specs.ImageReopens.{reopens}
 use Rattle.chips.proofs.image.CardImage.open.Goals as goal
 
 pub returns : goal.returns

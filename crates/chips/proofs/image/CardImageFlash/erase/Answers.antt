@@ -4,7 +4,6 @@ use Rattle.flash.specs.Numbers.{answer}
 use Rattle.chips.specs.ImageMemory.{memory_of_image}
 use Rattle.chips.proofs.Checked.{err_refused}
 use Rattle.chips.proofs.ImageCalls.{erase_makes, long_old}
-use Rattle.chips.proofs.ImageChanged.{image_reopens}
 use Rattle.chips.proofs.image.CardImageFlash.erase.Goals as goal
 
 pub returns-in_err-left : goal.returns-in_err-left
@@ -13,7 +12,7 @@ returns-in_err-left c =
     let same : answer c.from_residual-in_err-left.result ≡ answer c.check_erase.result = search rules in
     let told = same ∙ c.check_erase.ensures.answer seen (sym c.lives.ensures ∙ c.in_ok-lives.ensures.ok_part) in
     let r = c.from_residual-in_err-left.result in
-    record { answer = told; after = err_refused r _ _ _ (search rules) told; shape = refl; bytes = err_refused r _ _ _ (search rules) told; reopens = image_reopens c.args.self.now }
+    record { answer = told; after = err_refused r _ _ _ (search rules) told; shape = refl; bytes = err_refused r _ _ _ (search rules) told }
 
 pub invariant_of-self : goal.invariant_of-self
 invariant_of-self c =
@@ -35,5 +34,4 @@ returns c =
       after = made.shown;
       shape = refl;
       bytes = made.bytes;
-      reopens = search (rules, image_reopens);
     }

@@ -4,7 +4,6 @@ use Rattle.flash.specs.Numbers.{answer}
 use Rattle.chips.specs.ImageMemory.{memory_of_image}
 use Rattle.chips.proofs.Checked.{err_refused}
 use Rattle.chips.proofs.ImageCalls.{program_makes, standing_some}
-use Rattle.chips.proofs.ImageChanged.{image_reopens}
 use Rattle.chips.proofs.image.CardImageFlash.program.Goals as goal
 
 pub returns-in_err-check_program : goal.returns-in_err-check_program
@@ -13,7 +12,7 @@ returns-in_err-check_program c =
     let shows = standing_some seen _ (sym c.standing.ensures ∙ c.in_ok-standing.ensures.ok_part) in
     let told = ap answer (search rules) ∙ c.check_program.ensures.answer seen c.args.bytes.now shows refl in
     let r = c.from_residual-in_err-check_program.result in
-    record { answer = told; after = err_refused r _ _ _ (search rules) told; shape = refl; bytes = err_refused r _ _ _ (search rules) told; reopens = image_reopens c.args.self.now }
+    record { answer = told; after = err_refused r _ _ _ (search rules) told; shape = refl; bytes = err_refused r _ _ _ (search rules) told }
 
 pub invariant_of-self : goal.invariant_of-self
 invariant_of-self c =
@@ -32,5 +31,4 @@ returns c =
       after = made.shown;
       shape = refl;
       bytes = made.bytes;
-      reopens = search (rules, image_reopens);
     }
