@@ -60,14 +60,14 @@ module _ {c : Parts} {b k i : ℕ} (whole : Whole c) (found : Found c.shape b k 
     pub found_record : get_or c.records i d ≡ record_at c.records i
     found_record = get_or_default c.records i d no_record (omega arith)
 
-    pub found_shows : Shows (spot (laid_out c) b k) c.shape.pages (get_or c.records i d).standing
-    found_shows =
+    pub found_shows : {n : ℕ} → n ≡ (get_or c.records i d).standing → Shows (spot (laid_out c) b k) c.shape.pages n
+    found_shows count =
         record {
           here = ap (λ s. s.here) found_spot;
           depth = ap (λ s. s.depth) found_spot;
           stands = ap (λ s. length s.block.pages) found_spot
               ∙ (length-map-range_with_len (λ p. page_at c.bytes (i * c.shape.pages + p)) 0 (record_at c.records i).standing
-              ∙ ap (λ r. r.standing) (sym found_record));
+              ∙ (ap (λ r. r.standing) (sym found_record) ∙ sym count));
         }
 
     pub found_lives : lives_at (spot (laid_out c) b k) ≡ Some (get_or c.records i d).lives

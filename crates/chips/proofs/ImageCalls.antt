@@ -1,5 +1,5 @@
 -- What the calls answer of a block that the image shows, and what they make of the image.
-use Rattle.std.proofs.Common.{◌≡◌, ℕ, ◌+◌, ◌-◌, ◌*◌, ◌<◌, true, List, [], length, get_or, take, drop, None, Some, sym, refl, ap, ◌∙◌, arith}
+use Rattle.std.proofs.Common.{◌≡◌, ℕ, ◌+◌, ◌-◌, ◌*◌, ◌<◌, true, List, [], ◌++◌, length, get_or, take, drop, replicate, None, Some, sym, refl, ap, ◌∙◌, arith}
 use Rattle.std.proofs.lemmas.Bool.{cond_both}
 use Rattle.std.proofs.lemmas.List.FromFn.{get_or-map-range_with_len, length-map-range_with_len}
 use Rattle.std.specs.declared.ops.Range.{Range}
@@ -11,7 +11,7 @@ use Rattle.flash.proofs.Calls.{erase_done, not_refused, program_done}
 use Rattle.flash.specs.declared.Shape.{Shape}
 use Rattle.chips.specs.Bounded.{number_below}
 use Rattle.chips.specs.Checks.{Shows}
-use Rattle.chips.specs.ImageBlank.{blank_block}
+use Rattle.chips.specs.ImageBlank.{blank_block, block_head}
 use Rattle.chips.specs.ImageBounded.{block_long, named_by_banks}
 use Rattle.chips.specs.ImageLayout.{FoundAt, Shown, block_fits, block_in, block_record, block_size, erased_bytes, lives_in, named_shape, page_in, programmed_bytes, put, standing_in, stored, with_page, with_record}
 use Rattle.chips.specs.Layout.{block_count}
@@ -100,16 +100,17 @@ module _ {s : Shape} {bytes : List ℕ} {b k : ℕ} {place : Range ℕ} (found :
   old_held : old ≡ held found.shown
   old_held = λ t. take (size_found t) (drop (found.start t) bytes)
 
-  pub long_old : length old ≡ 4 + 2050 * s.pages
+  long_old : length old ≡ 4 + 2050 * s.pages
   long_old = ap length old_held ∙ long_held found.shown
 
   after_is : (new r : List ℕ) → new ≡ r → length r ≡ block_size s → after new ≡ with_record s bytes (b * s.blocks + k) r
   after_is new r e long =
       put_mid_put place.start (place.end - place.start) bytes new (size_found ∙ (sym long ∙ ap length (sym e))) ∙ (λ t. put (found.start t) (e t) bytes)
 
-  pub program_makes : (p n : ℕ) (page new : List ℕ) → Shows (spot (stored s bytes) b k) s.pages n → (p < s.pages) × ((p ≡ n) × (length page ≡ 2048)) → new ≡ with_page old p page
+  pub program_makes : (p n : ℕ) (page new : List ℕ) → standing_at (spot (stored s bytes) b k) ≡ Some n → (p < s.pages) × ((p ≡ n) × (length page ≡ 2048)) → new ≡ with_page old p page
       → Makes s (after new) (programmed_bytes s bytes b k p page) (programmed (stored s bytes) b k p page)
-  program_makes p n page new shows (low, (is, long)) e =
+  program_makes p n page new some (low, (is, long)) e =
+      let shows = standing_some (spot (stored s bytes) b k) n some in
       let r = held found.shown in
       let next = sym (is ∙ (sym shows.stands ∙ shown_count found.shown)) in
       let size = length_written r page s.pages p (long_held found.shown) low long next ∙ long_held found.shown in
@@ -118,7 +119,8 @@ module _ {s : Shape} {bytes : List ℕ} {b k : ℕ} {place : Range ℕ} (found :
       (written ((stored s bytes).at b k) page) (block_written r page s.pages p (long_held found.shown) low long next ∙ sym (ap (λ v. written v.block page) (shown_spot found.shown)))
       (after new) (after_is new (with_page r p page) (e ∙ ap (λ x. with_page x p page) old_held) size)
 
-  pub erase_makes : (n left : ℕ) (new : List ℕ) → lives_at (spot (stored s bytes) b k) ≡ Some n → n ≡ left + 1 → new ≡ blank_block s left
+  pub erase_makes : (n left : ℕ) (new : List ℕ) → lives_at (spot (stored s bytes) b k) ≡ Some n → n ≡ left + 1
+      → ((m : ℕ) → length old ≡ 4 + m → new ≡ block_head left ++ replicate m 0xFF)
       → Makes s (after new) (erased_bytes s bytes b k) (erased (stored s bytes) b k)
   erase_makes n left new some passed e =
       let lives = lives_in (held found.shown) in
@@ -128,4 +130,4 @@ module _ {s : Shape} {bytes : List ℕ} {b k : ℕ} {place : Range ℕ} (found :
       makes found.shown named (blank_block s (lives - 1)) (length-blank s (lives - 1)) (λ _. fits_blank s (lives - 1))
       (erase_number (spot (stored s bytes) b k)) (erase_done (spot (stored s bytes) b k) here (omega arith))
       (emptied ((stored s bytes).at b k)) (block_blank s (lives - 1) (omega arith) ∙ sym (ap (λ v. emptied v.block) (shown_spot found.shown)))
-      (after new) (after_is new (blank_block s (lives - 1)) (e ∙ ap (blank_block s) less) (length-blank s (lives - 1)))
+      (after new) (after_is new (blank_block s (lives - 1)) (e (2050 * s.pages) long_old ∙ ap (blank_block s) less) (length-blank s (lives - 1)))

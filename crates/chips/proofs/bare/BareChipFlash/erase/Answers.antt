@@ -1,5 +1,4 @@
 use Rattle.std.proofs.Common.{◌≡◌, refl, sym, ap, ◌∙◌, arith, rules}
-use Rattle.std.proofs.lemmas.Option.{MatchOption-at_some}
 use Rattle.flash.specs.Calls.{spot}
 use Rattle.flash.specs.Numbers.{answer}
 use Rattle.flash.proofs.Calls.{not_refused}
@@ -11,7 +10,7 @@ use Rattle.chips.proofs.bare.BareChipFlash.erase.Goals as goal
 
 pub returns-in_err-left-clause-answer : goal.returns-in_err-left-clause-answer
 returns-in_err-left-clause-answer c =
-    let found = MatchOption-at_some _ _ c.in_ok-i.i c.in_ok-i.ensures.ok_part c.number_of.ensures in
+    let found = rw c.in_ok-i.ensures.ok_part at c.number_of.ensures in
     let seen = spot (memory_of c.args.self.now) c.args.at.bank c.args.at.block in
     let same : answer c.from_residual-in_err-left.result ≡ answer c.check_erase.result = search rules in
     same ∙ c.check_erase.ensures.answer seen (found_lives c.args.self.now.whole found c.index-self-i.result)
@@ -22,7 +21,7 @@ returns-in_err-left-clause-after c = err_refused c.from_residual-in_err-left.res
 pub returns : goal.returns
 returns c =
     let whole = c.args.self.now.whole in
-    let found = MatchOption-at_some _ _ c.in_ok-i.i c.in_ok-i.ensures.ok_part c.number_of.ensures in
+    let found = rw c.in_ok-i.ensures.ok_part at c.number_of.ensures in
     let lives = ap (λ r. r.lives) (found_record whole found c.index-self-i.result) in
     let seen = spot (memory_of c.args.self.now) c.args.at.bank c.args.at.block in
     let done = c.in_ok-left.ensures.answer seen (found_lives whole found c.index-self-i.result) in

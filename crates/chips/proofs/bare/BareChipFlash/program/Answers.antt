@@ -1,5 +1,4 @@
 use Rattle.std.proofs.Common.{◌≡◌, ◌+◌, ◌*◌, refl, sym, ap, ◌∙◌, arith, rules}
-use Rattle.std.proofs.lemmas.Option.{MatchOption-at_some}
 use Rattle.flash.specs.Numbers.{answer}
 use Rattle.flash.proofs.Calls.{not_refused}
 use Rattle.chips.proofs.Blocks.{found_record, found_shows}
@@ -11,9 +10,9 @@ use Rattle.chips.proofs.bare.BareChipFlash.program.Goals as goal
 pub returns-in_err-check_program-clause-answer : goal.returns-in_err-check_program-clause-answer
 returns-in_err-check_program-clause-answer c =
     let whole = c.args.self.now.whole in
-    let found = MatchOption-at_some _ _ c.in_ok-i.i c.in_ok-i.ensures.ok_part c.number_of.ensures in
+    let found = rw c.in_ok-i.ensures.ok_part at c.number_of.ensures in
     let same : c.from_residual-in_err-check_program.result ≡ c.check_program.result = grind arith in
-    let shows = rw (sym c.from-standing.ensures) at (found_shows whole found c.index-self-i.result) in
+    let shows = found_shows whole found c.index-self-i.result c.from-standing.ensures in
     ap answer same ∙ c.check_program.ensures.answer _ c.args.bytes.now shows refl
 
 pub returns-in_err-check_program-clause-after : goal.returns-in_err-check_program-clause-after
@@ -24,9 +23,9 @@ pub returns : goal.returns
 returns c =
     let s = c.args.self.now in
     let whole = c.args.self.now.whole in
-    let found = MatchOption-at_some _ _ c.in_ok-i.i c.in_ok-i.ensures.ok_part c.number_of.ensures in
+    let found = rw c.in_ok-i.ensures.ok_part at c.number_of.ensures in
     let passed = c.in_ok-check_program.ensures.passed in
-    let shows = rw (sym c.from-standing.ensures) at (found_shows whole found c.index-self-i.result) in
+    let shows = found_shows whole found c.index-self-i.result c.from-standing.ensures in
     let done = c.in_ok-check_program.ensures.answer _ c.args.bytes.now shows refl in
     let count = ap (λ r. r.standing) (found_record whole found c.index-self-i.result) in
     record {

@@ -1,5 +1,4 @@
 use Rattle.std.proofs.Common.{◌≡◌, ◌+◌, ◌-◌, ◌*◌, take, drop, refl, sym, ap, ◌∙◌, arith, rules}
-use Rattle.std.proofs.lemmas.Option.{MatchOption-at_some}
 use Rattle.flash.specs.Numbers.{answer}
 use Rattle.flash.proofs.Calls.{not_refused}
 use Rattle.chips.proofs.Blocks.{found_record, found_shows}
@@ -10,9 +9,9 @@ use Rattle.chips.proofs.bare.BareChipFlash.read.Goals as goal
 pub returns-in_err-check_read : goal.returns-in_err-check_read
 returns-in_err-check_read c =
     let whole = c.args.self.now.whole in
-    let found = MatchOption-at_some _ _ c.in_ok-i.i c.in_ok-i.ensures.ok_part c.number_of.ensures in
+    let found = rw c.in_ok-i.ensures.ok_part at c.number_of.ensures in
     let same : c.from_residual-in_err-check_read.result ≡ c.check_read.result = grind arith in
-    let shows = rw (sym c.from-standing.ensures) at (found_shows whole found c.index-self-i.result) in
+    let shows = found_shows whole found c.index-self-i.result c.from-standing.ensures in
     let told = ap answer same ∙ c.check_read.ensures.answer _ c.args.buffer.now shows refl in
     record { answer = told; buffer = err_refused c.from_residual-in_err-check_read.result _ _ _ (search rules) told }
 
@@ -20,11 +19,11 @@ pub returns : goal.returns
 returns c =
     let s = c.args.self.now in
     let whole = c.args.self.now.whole in
-    let found = MatchOption-at_some _ _ c.in_ok-i.i c.in_ok-i.ensures.ok_part c.number_of.ensures in
+    let found = rw c.in_ok-i.ensures.ok_part at c.number_of.ensures in
     let n = (c.in_ok-i.i * s.shape.pages + c.args.page) * 2048 + c.args.quarter * 512 in
     let e : n + 512 - n ≡ 512 = omega arith in
     let passed = c.in_ok-check_read.ensures.passed in
-    let shows = rw (sym c.from-standing.ensures) at (found_shows whole found c.index-self-i.result) in
+    let shows = found_shows whole found c.index-self-i.result c.from-standing.ensures in
     let done = c.in_ok-check_read.ensures.answer _ c.args.buffer.now shows refl in
     record {
       answer = done;

@@ -1,8 +1,8 @@
-use Rattle.std.proofs.Common.{cond, Some, None, sym, ap, ◌∙◌}
+use Rattle.std.proofs.Common.{cond, Some, None, sym}
 use Rattle.chips.proofs.Blocks.{found_shows}
 use Rattle.chips.proofs.bare.BareChipFlash.standing.Goals as goal
 
 pub returns : goal.returns
 returns c =
-    let shows = found_shows c.args.self.now.whole c.in_ok-i.ensures c.index-self-i.result in
-    ap Some c.from.ensures ∙ sym (λ t. cond (shows.here t) (Some (shows.stands t)) None)
+    let shows = found_shows c.args.self.now.whole c.in_ok-i.ensures c.index-self-i.result c.from.ensures in
+    sym (λ t. cond (shows.here t) (Some (shows.stands t)) None)

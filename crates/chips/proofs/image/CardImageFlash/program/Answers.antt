@@ -16,18 +16,16 @@ returns-in_err-check_program c =
 
 pub invariant_of-self : goal.invariant_of-self
 invariant_of-self c =
-    let seen = spot (memory_of_image c.args.self.now) c.args.at.bank c.args.at.block in
-    let shows = standing_some seen _ (sym c.standing.ensures ∙ c.in_ok-standing.ensures.ok_part) in
-    let made = program_makes c.place_of-place.ensures c.args.self.now.named c.args.page _ c.args.bytes.now c.write_page.new.block shows c.in_ok-check_program.ensures.passed c.write_page.ensures in
-    record { named = made.named }
+    let some = sym c.standing.ensures ∙ c.in_ok-standing.ensures.ok_part in
+    record { named = (program_makes c.place_of-place.ensures c.args.self.now.named c.args.page _ _ _ some c.in_ok-check_program.ensures.passed c.write_page.ensures).named }
 
 pub returns : goal.returns
 returns c =
     let seen = spot (memory_of_image c.args.self.now) c.args.at.bank c.args.at.block in
-    let shows = standing_some seen _ (sym c.standing.ensures ∙ c.in_ok-standing.ensures.ok_part) in
-    let made = program_makes c.place_of-place.ensures c.args.self.now.named c.args.page _ c.args.bytes.now c.write_page.new.block shows c.in_ok-check_program.ensures.passed c.write_page.ensures in
+    let some = sym c.standing.ensures ∙ c.in_ok-standing.ensures.ok_part in
+    let made = program_makes c.place_of-place.ensures c.args.self.now.named c.args.page _ _ _ some c.in_ok-check_program.ensures.passed c.write_page.ensures in
     record {
-      answer = c.in_ok-check_program.ensures.answer seen c.args.bytes.now shows refl;
+      answer = c.in_ok-check_program.ensures.answer seen c.args.bytes.now (standing_some seen _ some) refl;
       after = made.shown;
       shape = refl;
       bytes = made.bytes;
