@@ -45,6 +45,7 @@ impl<'a> BareChip<'a> {
     pub fn new(shape: Shape, bytes: &'a mut [u8], records: &'a mut [BlockRecord]) -> Self
         ensures { memory_of result ≡ new_memory (made_of shape bytes.old records.old) }
     {
+        // The chip stands here twice: with its shape chosen first, the proof of what its type says gives up where the two ways meet.
         if !sizes_fit(shape, bytes, records) || !counts_fit(shape.pages, records) {
             return BareChip {
                 shape: NO_BANKS,

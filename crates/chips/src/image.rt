@@ -39,7 +39,8 @@ impl<'a> CardImage<'a> {
         CardImage { shape, bytes }
     }
 
-    // Where the record of a block lies that the image shows.
+    // Where the record of a block lies that the image shows. It answers no option, and works out the block's number itself:
+    // a call that writes has asked for the block before it asks for the place, and would have to refuse it a second time.
     fn place_of(&self, at: BlockAddress) -> Range<usize>
         requires { in_shape self.now.shape at.bank at.block ≡ true }
         ensures { FoundAt self.now.shape (bytes_of self.now) at.bank at.block result }
@@ -52,6 +53,7 @@ impl<'a> CardImage<'a> {
     fn block(&self, at: BlockAddress) -> Option<BlockView<'_>>
         ensures { MatchOption result (in_shape self.now.shape at.bank at.block ≡ false) (λ block. SeenAt self.now.shape (bytes_of self.now) at.bank at.block block.bytes.now) }
     {
+        // not by `then`: of a closure that calls through `self`, which holds a `&mut`, a proof learns nothing
         if !self.shape.contains(at) {
             return None;
         }
