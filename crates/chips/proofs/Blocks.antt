@@ -1,7 +1,7 @@
 -- What a bare chip shows of one block, and of all blocks after one has changed.
-use Rattle.std.proofs.Common.{◌≡◌, ℕ, ◌+◌, ◌*◌, ◌<◌, ◌≤◌, true, ◌≢◌, List, length, get_or, set, Some, refl, sym, ap, ◌∙◌, arith}
+use Rattle.std.proofs.Common.{◌≡◌, ℕ, ◌+◌, ◌*◌, ◌<◌, ◌≤◌, true, ◌≢◌, min, List, length, set, Some, refl, sym, ap, ◌∙◌, arith}
 use Rattle.std.specs.Prelude.{nat_lt}
-use Rattle.std.proofs.lemmas.List.{get_or_default, get_or-set_same, get_or-set_other}
+use Rattle.std.proofs.lemmas.List.{get_or-set_same, get_or-set_other}
 use Rattle.std.proofs.lemmas.List.Folds.{list_all_at}
 use Rattle.std.proofs.lemmas.List.FromFn.{length-map-range_with_len}
 use Rattle.std.proofs.lemmas.Bool.{and_parts, ltb-true}
@@ -55,23 +55,18 @@ module _ {c : Parts} {b k i : ℕ} (whole : Whole c) (found : Found c.shape b k 
   pub found_spot : spot (laid_out c) b k ≡ seen
   found_spot = numbered_spot c.shape (block_at c) b k i found.bank found.block found.number
 
-  -- what the call reads of the block's record, and what its checks ask of the block
-  module _ (d : BlockRecord) where
-    pub found_record : get_or c.records i d ≡ record_at c.records i
-    found_record = get_or_default c.records i d no_record (omega arith)
+  -- what the checks of a call ask of the block
+  pub found_shows : {n : ℕ} → n ≡ (record_at c.records i).standing → Shows (spot (laid_out c) b k) c.shape.pages n
+  found_shows count =
+      record {
+        here = ap (λ s. s.here) found_spot;
+        depth = ap (λ s. s.depth) found_spot;
+        stands = ap (λ s. length s.block.pages) found_spot
+            ∙ (length-map-range_with_len (λ p. page_at c.bytes (i * c.shape.pages + p)) 0 (record_at c.records i).standing ∙ sym count);
+      }
 
-    pub found_shows : {n : ℕ} → n ≡ (get_or c.records i d).standing → Shows (spot (laid_out c) b k) c.shape.pages n
-    found_shows count =
-        record {
-          here = ap (λ s. s.here) found_spot;
-          depth = ap (λ s. s.depth) found_spot;
-          stands = ap (λ s. length s.block.pages) found_spot
-              ∙ (length-map-range_with_len (λ p. page_at c.bytes (i * c.shape.pages + p)) 0 (record_at c.records i).standing
-              ∙ (ap (λ r. r.standing) (sym found_record) ∙ sym count));
-        }
-
-    pub found_lives : lives_at (spot (laid_out c) b k) ≡ Some (get_or c.records i d).lives
-    found_lives = ap lives_at found_spot ∙ ap (λ r. Some r.lives) (sym found_record)
+  pub found_lives : {n : ℕ} → n ≡ (record_at c.records i).lives → n < 65536 → lives_at (spot (laid_out c) b k) ≡ Some n
+  found_lives count fits = ap lives_at found_spot ∙ ap Some (omega arith)
 
   -- a chip with another record for the block, and bytes that leave the pages of the other blocks
   module _ (bytes : List ℕ) (r : BlockRecord)
@@ -85,7 +80,7 @@ module _ {c : Parts} {b k i : ℕ} (whole : Whole c) (found : Found c.shape b k 
     at_other : (j : ℕ) → j < block_count c.shape → j ≢ i → block_at changed j ≡ block_at c j
     at_other j h other =
         ap (block_of changed j) (get_or-set_other c.records i j r no_record other)
-        ∙ ap (λ ps. record { pages = ps; lives = (record_at c.records j).lives })
+        ∙ ap (λ ps. record { pages = ps; lives = min (record_at c.records j).lives 65535 })
         (apart j (record_at c.records j).standing (whole.counts j h) other)
 
     pub laid_out_changed : laid_out changed ≡ with_block (laid_out c) b k (block_of changed i r)

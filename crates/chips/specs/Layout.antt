@@ -1,7 +1,6 @@
 -- How the bytes and the records of a bare chip make a flash.
-use Rattle.std.specs.Prelude.{◌≡◌, ℕ, ◌+◌, ◌*◌, ◌<◌, ◌≤◌, Bool, cond, ◌&&◌, List, map, length, take, drop, ◌==◌, nat_le, slice_index_or}
+use Rattle.std.specs.Prelude.{◌≡◌, ℕ, ◌+◌, ◌*◌, ◌<◌, ◌≤◌, Bool, cond, ◌&&◌, List, map, length, take, drop, ◌==◌, nat_le, min, slice_index_or}
 use Rattle.std.specs.List.{list_all, range_with_len}
-use Rattle.std.proofs.Common.{arith}
 use Rattle.flash.specs.Memory.{Memory, Block, no_banks}
 use Rattle.flash.specs.declared.Shape.{Shape}
 use Rattle.chips.specs.Numbered.{numbered}
@@ -28,13 +27,13 @@ page_at bytes j = take 2048 (drop (j * 2048) bytes)
 abbrev pub pages_at : Parts → ℕ → ℕ → List (List ℕ)
 pages_at c i n = map (λ p. page_at c.bytes (i * c.shape.pages + p)) (range_with_len 0 n)
 
--- the block with the number i, if r is its record
+-- the block with the number i, if r is its record; its lives are no more than 65535, and `min` only says so of numbers that are no `u16`
 abbrev pub block_of : Parts → ℕ → BlockRecord → Block
-block_of c i r = record { pages = pages_at c i r.standing; lives = r.lives }
+block_of c i r = record { pages = pages_at c i r.standing; lives = min r.lives 65535 }
 
 -- stands for a record past the last
 abbrev pub no_record : BlockRecord
-no_record = record { standing = 0; lives = 0; lives_fit = omega arith }
+no_record = record { standing = 0; lives = 0 }
 
 -- the record of the block with the number i
 abbrev pub record_at : List BlockRecord → ℕ → BlockRecord

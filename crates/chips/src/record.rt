@@ -1,5 +1,5 @@
 // What a bare chip keeps of each block.
-ghost use Rattle.std.specs.Prelude.{◌≡◌, ◌<◌};
+ghost use Rattle.std.specs.Prelude.{◌≡◌};
 
 #[derive(Clone, Copy, PartialEq, Eq, Debug)]
 pub struct BlockRecord {
@@ -7,8 +7,6 @@ pub struct BlockRecord {
     pub standing: u8,
     // how many erases the block can still take
     pub lives: u16,
-    // what the type of the lives says, for proofs about a whole slice of records
-    ghost lives_fit: { lives < 65536 },
 }
 
 impl BlockRecord {
@@ -18,5 +16,12 @@ impl BlockRecord {
         ensures lives { result.lives ≡ lives }
     {
         BlockRecord { standing: 0, lives }
+    }
+
+    // The lives, in a call: it tells a proof that they fit their type, and a read of the field does not.
+    pub(crate) fn lives_left(self) -> u16
+        ensures { result ≡ self.lives }
+    {
+        self.lives
     }
 }

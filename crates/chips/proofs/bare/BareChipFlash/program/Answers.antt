@@ -1,7 +1,7 @@
 use Rattle.std.proofs.Common.{◌≡◌, ◌+◌, ◌*◌, refl, sym, ap, ◌∙◌, arith, rules}
 use Rattle.flash.specs.Numbers.{answer}
 use Rattle.flash.proofs.Calls.{not_refused}
-use Rattle.chips.proofs.Blocks.{found_record, found_shows}
+use Rattle.chips.proofs.Blocks.{found_shows}
 use Rattle.chips.proofs.Calls.{laid_out_programmed}
 use Rattle.chips.proofs.Checked.{err_refused}
 use Rattle.chips.proofs.Pages.{copied_page}
@@ -12,7 +12,7 @@ returns-in_err-check_program-clause-answer c =
     let whole = c.args.self.now.whole in
     let found = rw c.in_ok-i.ensures.ok_part at c.number_of.ensures in
     let same : c.from_residual-in_err-check_program.result ≡ c.check_program.result = grind arith in
-    let shows = found_shows whole found c.index-self-i.result c.from-standing.ensures in
+    let shows = found_shows whole found c.from-standing.ensures in
     ap answer same ∙ c.check_program.ensures.answer _ c.args.bytes.now shows refl
 
 pub returns-in_err-check_program-clause-after : goal.returns-in_err-check_program-clause-after
@@ -25,15 +25,14 @@ returns c =
     let whole = c.args.self.now.whole in
     let found = rw c.in_ok-i.ensures.ok_part at c.number_of.ensures in
     let passed = c.in_ok-check_program.ensures.passed in
-    let shows = found_shows whole found c.index-self-i.result c.from-standing.ensures in
+    let shows = found_shows whole found c.from-standing.ensures in
     let done = c.in_ok-check_program.ensures.answer _ c.args.bytes.now shows refl in
-    let count = ap (λ r. r.standing) (found_record whole found c.index-self-i.result) in
     record {
       answer = done;
-      after = laid_out_programmed whole found c.args.page c.args.bytes.now _ _ (omega arith) (omega arith) (omega (arith, count))
+      after = laid_out_programmed whole found c.args.page c.args.bytes.now _ _ (omega arith) (omega arith) (omega arith)
           (copied_page s.bytes.now c.args.bytes.now c.copy_from_slice.new.self (c.in_ok-i.i * s.shape.pages + c.args.page) c.copy_from_slice.ensures.after)
-          (omega (arith, count, ap (λ r. r.standing) (found_record whole found c.index-self-i-2.result)))
-          (ap (λ r. r.lives) (found_record whole found c.index-self-i-3.result))
+          (omega arith)
+          refl
           ∙ sym (not_refused _ _ _ (sym done));
       refused = tt;
     }

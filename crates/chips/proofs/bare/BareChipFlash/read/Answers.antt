@@ -1,7 +1,7 @@
 use Rattle.std.proofs.Common.{◌≡◌, ◌+◌, ◌-◌, ◌*◌, take, drop, refl, sym, ap, ◌∙◌, arith, rules}
 use Rattle.flash.specs.Numbers.{answer}
 use Rattle.flash.proofs.Calls.{not_refused}
-use Rattle.chips.proofs.Blocks.{found_record, found_shows}
+use Rattle.chips.proofs.Blocks.{found_shows}
 use Rattle.chips.proofs.Calls.{found_quarter}
 use Rattle.chips.proofs.Checked.{err_refused}
 use Rattle.chips.proofs.bare.BareChipFlash.read.Goals as goal
@@ -11,7 +11,7 @@ returns-in_err-check_read c =
     let whole = c.args.self.now.whole in
     let found = rw c.in_ok-i.ensures.ok_part at c.number_of.ensures in
     let same : c.from_residual-in_err-check_read.result ≡ c.check_read.result = grind arith in
-    let shows = found_shows whole found c.index-self-i.result c.from-standing.ensures in
+    let shows = found_shows whole found c.from-standing.ensures in
     let told = ap answer same ∙ c.check_read.ensures.answer _ c.args.buffer.now shows refl in
     record { answer = told; buffer = err_refused c.from_residual-in_err-check_read.result _ _ _ (search rules) told }
 
@@ -23,11 +23,11 @@ returns c =
     let n = (c.in_ok-i.i * s.shape.pages + c.args.page) * 2048 + c.args.quarter * 512 in
     let e : n + 512 - n ≡ 512 = omega arith in
     let passed = c.in_ok-check_read.ensures.passed in
-    let shows = found_shows whole found c.index-self-i.result c.from-standing.ensures in
+    let shows = found_shows whole found c.from-standing.ensures in
     let done = c.in_ok-check_read.ensures.answer _ c.args.buffer.now shows refl in
     record {
       answer = done;
       buffer = c.copy_from_slice.ensures.after
           ∙ (ap (λ x. take x (drop n s.bytes.now)) e
-          ∙ (sym (found_quarter whole found c.args.page c.args.quarter (omega arith) (omega (arith, ap (λ r. r.standing) (found_record whole found c.index-self-i.result)))) ∙ sym (not_refused _ _ _ (sym done))));
+          ∙ (sym (found_quarter whole found c.args.page c.args.quarter (omega arith) (omega arith)) ∙ sym (not_refused _ _ _ (sym done))));
     }
