@@ -21,7 +21,8 @@ pub struct BareChip<'a> {
     ghost whole: { Whole (made_of shape bytes.now records.now) },
 }
 
-// Whether a flash can have the shape, and there are just as many bytes and records as it needs.
+// Whether a flash can have the shape, and there are just as many bytes and records as it needs. The blocks are counted here by their
+// product, as elsewhere: a function for it would require what keeps it from being too large.
 fn sizes_fit(shape: Shape, bytes: &[u8], records: &[BlockRecord]) -> bool
     ensures { result ≡ sizes_fit (made_of shape bytes.now records.now) }
 {

@@ -28,7 +28,8 @@ pub(super) const BLOCK_HEAD: usize = BLOCK_MARK.len() + 2;
 // The bytes of a page with its mark.
 pub(super) const PAGE_RECORD: usize = MARK + PAGE;
 
-// The bytes of a block with its mark and its lives.
+// The bytes of a block with its mark and its lives. The bound is asked, and not carried by a type of shapes: a struct with such a fact
+// could not lie in an image, beside its bytes.
 pub(super) fn block_size(shape: Shape) -> usize
     requires { shape.pages ≤ 64 }
     ensures { result ≡ block_size shape }

@@ -7,7 +7,7 @@ use crate::image::marks::{BLANK_MARK, BLOCK_HEAD, BLOCK_MARK, MARK, PAGE_RECORD,
 use flash::QUARTER;
 
 // A block as it lies in an image: its mark, its lives, and the records of its pages. What is said of its pages is said
-// of each number n of them that the length allows.
+// of each number n of them that the length allows: how many there are is not kept a second time beside the bytes.
 #[derive(Clone, Copy)]
 pub(super) struct BlockView<'a> {
     pub(super) bytes: &'a [u8],
