@@ -1,5 +1,5 @@
 -- What a bare chip shows of one block, and of all blocks after one has changed.
-use Rattle.std.proofs.Common.{◌≡◌, ℕ, ◌+◌, ◌*◌, ◌<◌, ◌≤◌, true, ◌≢◌, min, List, length, set, Some, refl, sym, ap, ◌∙◌, arith}
+use Rattle.std.proofs.Common.{◌≡◌, ℕ, ◌+◌, ◌*◌, ◌<◌, ◌≤◌, true, ◌≢◌, min, List, length, set, None, Some, cond, refl, sym, ap, ◌∙◌, arith}
 use Rattle.std.specs.Prelude.{nat_lt}
 use Rattle.std.proofs.lemmas.List.{get_or-set_same, get_or-set_other}
 use Rattle.std.proofs.lemmas.List.Folds.{list_all_at}
@@ -7,7 +7,7 @@ use Rattle.std.proofs.lemmas.List.FromFn.{length-map-range_with_len}
 use Rattle.std.proofs.lemmas.Bool.{and_parts, ltb-true}
 use Rattle.std.proofs.lemmas.Bool.Decides.{nat_tests}
 use Rattle.std.proofs.lemmas.Nat.{mul-le}
-use Rattle.flash.specs.Calls.{Spot, lives_at, spot, with_block}
+use Rattle.flash.specs.Calls.{Spot, lives_at, spot, standing_at, with_block}
 use Rattle.flash.specs.Memory.{in_shape}
 use Rattle.flash.specs.declared.Shape.{Shape}
 use Rattle.chips.specs.Bounded.{sizes_of}
@@ -64,6 +64,10 @@ module _ {c : Parts} {b k i : ℕ} (whole : Whole c) (found : Found c.shape b k 
         stands = ap (λ s. length s.block.pages) found_spot
             ∙ (length-map-range_with_len (λ p. page_at c.bytes (i * c.shape.pages + p)) 0 (record_at c.records i).standing ∙ sym count);
       }
+
+  -- what the calls answer of the block
+  pub found_standing : {n : ℕ} → n ≡ (record_at c.records i).standing → standing_at (spot (laid_out c) b k) ≡ Some n
+  found_standing count = let shows = found_shows count in (λ t. cond (shows.here t) (Some (shows.stands t)) None)
 
   pub found_lives : {n : ℕ} → n ≡ (record_at c.records i).lives → n < 65536 → lives_at (spot (laid_out c) b k) ≡ Some n
   found_lives count fits = ap lives_at found_spot ∙ ap Some (omega arith)

@@ -31,8 +31,7 @@ returns c =
       answer = done;
       after = laid_out_programmed whole found c.args.page c.args.bytes.now _ _ (omega arith) (omega arith) (omega arith)
           (copied_page s.bytes.now c.args.bytes.now c.copy_from_slice.new.self (c.in_ok-i.i * s.shape.pages + c.args.page) c.copy_from_slice.ensures.after)
-          (omega arith)
-          refl
+          (omega arith) refl
           ∙ sym (not_refused _ _ _ (sym done));
       refused = tt;
     }
