@@ -107,6 +107,18 @@ mod tests {
         );
     }
 
+    // Every block of every bank is asked, the first ones too.
+    #[test]
+    fn refuses_a_standing_first_block(rt: HostRuntime) {
+        for first in [0, 5] {
+            let mut bytes = [0u8; 20_480];
+            let mut records = [BlockRecord::blank(3); 10];
+            records[first].standing = 1;
+            let chip = BareChip::new(Shape::new(2, 5, 1), &mut bytes, &mut records);
+            assert_eq!(rt; Card::new(chip).form(2, 2), Err(CardRefusal::Printed));
+        }
+    }
+
     #[test]
     fn reports(rt: HostRuntime) {
         let mut bytes = [0u8; 49_152];

@@ -185,14 +185,14 @@ mod tests {
         assert_eq!(rt; records, [worked, BlockRecord::blank(0)]);
     }
 
-    // Where a page lies: block 2 of bank 1 of three blocks a bank is the sixth block. More pages may stand than a bank has blocks.
+    // Where a page lies: block 0 of bank 1 is the fourth block where a bank has three. More pages may stand than a bank has blocks.
     #[test]
     fn places(rt: HostRuntime) {
         let mut bytes = [0u8; 12_288];
         let mut records = [BlockRecord::blank(2); 6];
         let mut chip = BareChip::new(Shape::new(2, 3, 1), &mut bytes, &mut records);
-        assert_eq!(rt; chip.program(BlockAddress::new(1, 2), 0, &page(7)), Ok(()));
-        assert!(rt; bytes[8192] == 0 && bytes[10_240] == 7 && bytes[12_287] == 10);
+        assert_eq!(rt; chip.program(BlockAddress::new(1, 0), 0, &page(7)), Ok(()));
+        assert!(rt; bytes[2048] == 0 && bytes[6144] == 7 && bytes[8191] == 10 && bytes[8192] == 0);
         let mut bytes = [0u8; 4096];
         let mut records = [BlockRecord::blank(2)];
         let at = BlockAddress::new(0, 0);

@@ -30,6 +30,7 @@ mod tests {
         assert_eq!(rt; Command::try_from(b"F 90".as_slice()), Err(NoCommand));
         assert_eq!(rt; Command::try_from(b"F 90 4 1".as_slice()), Err(NoCommand));
         assert_eq!(rt; Command::try_from(b"F 90 +4".as_slice()), Err(NoCommand));
+        assert_eq!(rt; Command::try_from(b"F 90 :".as_slice()), Err(NoCommand));
         assert_eq!(rt; Command::try_from(b"Q 0 \xff".as_slice()), Err(NoCommand));
         assert_eq!(rt;
             Command::try_from(b"Q 0 99999999999999999999".as_slice()),
