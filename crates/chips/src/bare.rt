@@ -66,7 +66,7 @@ impl<'a> BareChip<'a> {
     fn number_of(&self, at: BlockAddress) -> Option<usize>
         ensures { MatchOption result (in_shape self.now.shape at.bank at.block ≡ false) (Found self.now.shape at.bank at.block) }
     {
-        // read before the closure: of one that reads it through `self`, a proof learns nothing
+        // read before the closure: of one that goes through `self`, which holds a `&mut`, a proof learns nothing
         let blocks = self.shape.blocks;
         self.shape.contains(at).then(|| at.bank * blocks + at.block)
     }

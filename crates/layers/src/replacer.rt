@@ -9,7 +9,8 @@ use flash::{BlockAddress, Flash, NO_BANKS, Refusal, Shape};
 
 mod plan;
 
-// The flash `inner`, of which the first `shown` blocks of each bank are shown: none where its bad blocks cannot be replaced.
+// The flash `inner`, of which the first `shown` blocks of each bank are shown: 0 where its bad blocks cannot be replaced, and no `Option`
+// of a table, which would be a struct with facts of its own beside the flash: that is not covered where the flash holds a `&mut`.
 // For each bank a row has the places of these blocks, no two at one place. The rows are worked out once, and looked up in each call;
 // they have room for the largest flash, since the layers allocate nothing.
 #[derive(Drop)]

@@ -11,7 +11,7 @@ use flash::Flash;
 use std::alloc::{AllocError, Global};
 use zones::{Card, ZoneReport};
 
-// Has the card report so many zones.
+// Has the card report so many zones from the first on: two numbers, as a line gives them.
 fn report<F: Flash>(
     heap: Global,
     card: &Card<F>,

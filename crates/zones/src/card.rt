@@ -33,7 +33,8 @@ impl<F: Flash> Card<F> {
     }
 
     // Forms the card: at most `limit` zones open or threaded together, each striped over `width` banks. Two numbers, as a host
-    // gives them: a struct of the two would be taken apart at once.
+    // gives them: a struct of the two would be taken apart at once. That the flash
+    // stays is a clause of its own, since the flat card would not tell.
     pub fn form(&mut self, limit: usize, width: usize) -> Result<Done, CardRefusal>
         ensures answer { answer_of result ≡ (form (flat_card self.old) limit width (surveyed self.old)).0 }
         ensures flat { flat_card self.new ≡ (form (flat_card self.old) limit width (surveyed self.old)).1 }

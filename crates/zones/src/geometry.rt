@@ -7,7 +7,7 @@ ghost use Rattle.zones.specs.Tables.{FitsTables};
 use flash::Flash;
 
 // The most zones that may be open or threaded together, the banks that a zone is striped over (its width),
-// the blocks of a bank, the pages of a block (its depth), and the number of chip groups: plain numbers, which contracts name one by one.
+// the blocks of a bank, the pages of a block (its depth), and the number of chip groups: plain numbers, with one fact about them.
 #[derive(Clone, Copy)]
 pub struct Geometry {
     pub limit: usize,

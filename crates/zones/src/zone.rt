@@ -29,7 +29,8 @@ impl From<Phase> for State {
 }
 
 // A zone: its phase, its write pointer as an offset, and the number of its slot. It has one only while it is open or
-// threaded. The number stands beside the phase, and not in it, so that sectors are put and read alike in both.
+// threaded. The number stands beside the phase, and not in it: what an open and a threaded
+// zone have alike is said once.
 #[derive(Clone, Copy)]
 pub struct Zone {
     pub phase: Phase,
@@ -57,6 +58,7 @@ pub struct Slot {
 }
 
 impl Slot {
+    // A constant, as `Zone::EMPTY` is.
     pub const BLANK: Slot = Slot {
         page: [0; PAGE],
         map: [0; 512],

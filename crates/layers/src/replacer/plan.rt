@@ -8,7 +8,8 @@ ghost use Rattle.layers.specs.ReplacedPlaces.{place_in};
 
 use flash::{BlockAddress, Flash, Shape};
 
-// What is asked before there is a plan, of the parts that it will hold.
+// What is asked of the parts of a plan, before there is one and in it. A bank and a block are two numbers here, since the blocks of a
+// bank are gone through by their numbers.
 
 // Whether the list has the block.
 fn is_bad(bad: &[BlockAddress], bank: usize, block: usize) -> bool
@@ -117,7 +118,7 @@ impl<'a> Plan<'a> {
         self.good_spare(bank, before).unwrap()
     }
 
-    // The places of the shown blocks of a bank.
+    // The places of the shown blocks of a bank. Filled in place: what `array::from_fn` promises forgets what its closure reads.
     fn row(&self, bank: usize) -> [u8; 64]
         requires { bank < self.now.below.banks }
         ensures { (k : ℕ) → k < shown_of self.now → slice_index result k ≡ planned self.now bank k }
