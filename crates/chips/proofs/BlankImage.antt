@@ -1,14 +1,15 @@
 -- A blank image: how formatting comes to write it, and that it opens as the blank flash.
-use Rattle.std.proofs.Common.{◌≡◌, ℕ, zero, suc, ◌+◌, ◌*◌, ◌<◌, ◌≤◌, true, cond, ◌&&◌, ltb, List, ◌++◌, length, take, drop, sym, refl, ap, ◌∙◌, ⊎_elim, add-one, arith}
+use Rattle.std.proofs.Common.{◌≡◌, ℕ, zero, suc, ◌+◌, ◌-◌, ◌*◌, ◌<◌, ◌≤◌, true, cond, ◌&&◌, ltb, List, ◌++◌, length, take, drop, replicate, sym, refl, ap, ◌∙◌, ⊎_elim, add-one, arith}
 use Rattle.std.proofs.lemmas.Bool.{and_from, and_parts, cases_Bool, cases_lt, cond-false, cond-true, eq-eqb, ltb-true}
-use Rattle.std.proofs.lemmas.List.{append-nil, append_assoc, drop_all, drop_at, drop-append-le, drop-drop, length-append, length-drop, take_all, take_at, take-append-le}
+use Rattle.std.proofs.lemmas.List.{append-nil, append_assoc, drop_at, drop-append-le, drop-drop, drop-replicate, length-append, length-drop, replicate-append-replicate, take_all, take_at, take-append-le}
 use Rattle.std.proofs.lemmas.Nat.{mul-le}
 use borrow.Rule.Slice.PartMut.{put_mid}
 use Rattle.flash.specs.Memory.{no_banks, no_block}
 use Rattle.flash.specs.declared.Shape.{Shape}
 use Rattle.flash.proofs.Calls.{same_memory}
 use Rattle.chips.specs.Bounded.{number_below}
-use Rattle.chips.specs.ImageBlank.{blank_block, blank_blocks, blank_flash, blank_image, header}
+use Rattle.chips.specs.ImageBlank.{blank_block, blank_blocks, blank_flash, blank_image, block_head, header}
+use Rattle.chips.specs.ImageBounded.{block_ends}
 use Rattle.chips.specs.ImageLayout.{block_in, block_size, block_start, header_mark, image_length, image_sizes_fit, is_image, opened, block_record, block_fits, stored}
 use Rattle.chips.specs.Layout.{block_count, shape_fits}
 use Rattle.chips.proofs.ImageChanged.{blocks_each}
@@ -26,23 +27,38 @@ module _ (s : Shape) (lives : ℕ) where
   length_front : (n : ℕ) → length (front n) ≡ block_start s n
   length_front n = omega (arith, length-blocks n)
 
-  -- ---- formatting: the header and n blocks are written, and the rest is as it was
-  abbrev pub begun : List ℕ → ℕ → List ℕ
-  begun bytes n = front n ++ drop (block_start s n) bytes
+  -- how many bytes follow them
+  abbrev left : ℕ → ℕ
+  left n = image_length s - block_start s n
 
-  pub begun_more : (bytes now block : List ℕ) (n start k : ℕ) → now ≡ begun bytes n → start ≡ block_start s n → k ≡ block_size s → block ≡ blank_block s lives
-      → put_mid start k now block ≡ begun bytes (n + 1)
-  begun_more bytes now block n start k b f e h =
-      let z = block_size s in
+  -- ---- formatting: the header and the heads of n blocks are written, and all else is FF
+  abbrev pub begun : ℕ → List ℕ
+  begun n = front n ++ replicate (left n) 0xFF
+
+  -- the header, over bytes that are all FF
+  pub begun_none : (filled head : List ℕ) (n : ℕ) → filled ≡ replicate n 0xFF → n ≡ image_length s → head ≡ header s → head ++ drop 6 filled ≡ begun 0
+  begun_none filled head n f e h =
+      let m : n - 6 ≡ left 0 = omega arith in
+      (λ t. h t ++ drop 6 (f t)) ∙ ap (λ x. header s ++ x) (drop-replicate 6 n 0xFF ∙ ap (λ x. replicate x 0xFF) m)
+
+  -- the head of one more block
+  pub begun_more : (now head : List ℕ) (n start k : ℕ) → n < block_count s → now ≡ begun n → start ≡ block_start s n → k ≡ 4 → head ≡ block_head lives
+      → put_mid start k now head ≡ begun (n + 1)
+  begun_more now head n start k l b e f h =
       let at = block_start s n in
-      let last = drop-drop z at bytes ∙ ap (λ i. drop i bytes) {x = at + z} {y = block_start s (n + 1)} (omega arith) in
-      (λ t. put_mid (f t) (e t) (b t) (h t))
-      ∙ ((λ t. take_at (front n) (drop at bytes) at (length_front n) t ++ (blank_block s lives ++ drop z (drop_at (front n) (drop at bytes) at (length_front n) t)))
-      ∙ (ap (λ x. front n ++ (blank_block s lives ++ x)) last ∙ simp (append_assoc, add-one)))
+      let pages = 2050 * s.pages in
+      let within = block_ends s n l in
+      let m : left n - 4 ≡ pages + left (n + 1) = omega arith in
+      (λ t. put_mid (e t) (f t) (b t) (h t))
+      ∙ ((λ t. take_at (front n) (replicate (left n) 0xFF) at (length_front n) t ++ (block_head lives ++ drop 4 (drop_at (front n) (replicate (left n) 0xFF) at (length_front n) t)))
+      ∙ (ap (λ x. front n ++ (block_head lives ++ x))
+      (drop-replicate 4 (left n) 0xFF ∙ (ap (λ x. replicate x 0xFF) m ∙ sym (replicate-append-replicate pages (left (n + 1)) 0xFF)))
+      ∙ simp (append_assoc, add-one)))
 
-  pub begun_all : (bytes now : List ℕ) (n : ℕ) → n ≡ block_count s → length bytes ≡ image_length s → now ≡ begun bytes n → now ≡ blank_image s lives
-  begun_all bytes now n e long b =
-      b ∙ (ap (begun bytes) e ∙ (ap (λ x. blank_image s lives ++ x) (drop_all (block_start s (block_count s)) bytes (omega arith)) ∙ append-nil (blank_image s lives)))
+  pub begun_all : (now : List ℕ) (n : ℕ) → n ≡ block_count s → now ≡ begun n → now ≡ blank_image s lives
+  begun_all now n e b =
+      let m : left (block_count s) ≡ 0 = omega arith in
+      b ∙ (ap begun e ∙ (ap (λ x. blank_image s lives ++ replicate x 0xFF) m ∙ append-nil (blank_image s lives)))
 
   -- ---- opening
   abbrev image : List ℕ

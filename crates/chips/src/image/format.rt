@@ -6,8 +6,8 @@ ghost use Rattle.chips.specs.Layout.{shape_fits};
 
 use super::CardImage;
 use crate::image::check::image_sizes_fit;
-use crate::image::marks::{HEADER, HEADER_MARK, block_size, block_start};
-use crate::image::records::write_blank;
+use crate::image::marks::{BLOCK_HEAD, HEADER, HEADER_MARK, block_start};
+use crate::image::records::block_head;
 use flash::Shape;
 
 // The header of an image.
@@ -38,12 +38,15 @@ impl<'a> CardImage<'a> {
         if !image_sizes_fit(shape, bytes) {
             return false;
         }
+        // All bytes are FF before the header and the heads are written, and opening refuses a block without its mark. So a formatting
+        // that is cut off leaves no image until the last head is there, and never the pages of an older one under the new header.
+        bytes.fill(0xFF);
         bytes[..HEADER].copy_from_slice(&header(shape));
-        let size = block_size(shape);
+        let head = block_head(lives);
         // By an index: of what a loop writes to lent parts, by `chunks_exact_mut` or by `split_at_mut`, nothing is known after it.
         for i in 0..shape.banks * shape.blocks {
             let start = block_start(shape, i);
-            write_blank(&mut bytes[start..start + size], lives);
+            bytes[start..start + BLOCK_HEAD].copy_from_slice(&head);
         }
         true
     }

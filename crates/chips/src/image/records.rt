@@ -73,12 +73,20 @@ pub(super) fn write_page(block: &mut [u8], page: usize, bytes: &[u8])
     block[first..first + MARK].copy_from_slice(&STANDING_MARK);
 }
 
-// Writes the record of a blank block.
+// What the record of a block starts with: its mark, and its lives with the low byte first.
+pub(super) fn block_head(lives: u16) -> [u8; BLOCK_HEAD]
+    ensures { result ≡ block_head lives }
+{
+    let [first, second] = BLOCK_MARK;
+    let [low, high] = lives.to_le_bytes();
+    [first, second, low, high]
+}
+
+// Writes the record of a blank block, its pages before its lives.
 pub(super) fn write_blank(block: &mut [u8], lives: u16)
     requires { 4 ≤ length block.old }
     ensures { (n : ℕ) → length block.old ≡ 4 + n → block.new ≡ block_head lives ++ replicate n 0xFF }
 {
     block[BLOCK_HEAD..].fill(0xFF);
-    block[MARK..BLOCK_HEAD].copy_from_slice(&lives.to_le_bytes());
-    block[..MARK].copy_from_slice(&BLOCK_MARK);
+    block[..BLOCK_HEAD].copy_from_slice(&block_head(lives));
 }
