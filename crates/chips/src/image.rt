@@ -3,7 +3,7 @@ ghost use Rattle.std.specs.Prelude.{◌≡◌, true, false, if◌then◌else◌,
 ghost use Rattle.flash.specs.Memory.{in_shape};
 ghost use Rattle.chips.specs.ImageLayout.{FoundAt, SeenAt, named_shape};
 
-use crate::checks::{check_erase, check_program, check_read};
+use crate::checks::{check_erase, check_next, check_page, check_sector, check_stands};
 use crate::image::check::image_shape;
 use crate::image::marks::{block_size, block_start};
 use crate::image::records::{BlockView, write_blank, write_page};
@@ -94,13 +94,8 @@ impl<'a> Flash for CardImage<'a> {
         buffer: &mut [u8],
     ) -> Result<(), Refusal> {
         let block = self.block(at).ok_or(Refusal::Outside)?;
-        check_read(
-            self.shape.pages,
-            block.standing(),
-            page,
-            quarter,
-            buffer.len(),
-        )?;
+        check_sector(self.shape.pages, page, quarter, buffer.len())?;
+        check_stands(block.standing(), page)?;
         buffer.copy_from_slice(block.quarter(page, quarter));
         Ok(())
     }
@@ -111,8 +106,11 @@ impl<'a> Flash for CardImage<'a> {
         ensures shape { self.new.shape ≡ self.old.shape }
         ensures bytes { bytes_of self.new ≡ programmed_bytes self.old.shape (bytes_of self.old) at.bank at.block page bytes.now }
     {
-        let standing = self.standing(at).ok_or(Refusal::Outside)?;
-        check_program(self.shape.pages, standing, page, bytes.len())?;
+        // read before the block is lent: the borrow checker covers no read of the shape beside it
+        let pages = self.shape.pages;
+        let block = self.block(at).ok_or(Refusal::Outside)?;
+        check_page(pages, page, bytes.len())?;
+        check_next(block.standing(), page)?;
         let place = self.place_of(at);
         write_page(&mut self.bytes[place], page, bytes);
         Ok(())

@@ -1,31 +1,43 @@
-use Rattle.std.proofs.Common.{refl, sym, ap, ◌∙◌, rules}
-use Rattle.flash.specs.Calls.{spot}
-use Rattle.flash.specs.Numbers.{answer}
-use Rattle.chips.specs.ImageMemory.{memory_of_image}
+use Rattle.std.proofs.Common.{◌≡◌, refl, ◌∙◌, rules}
+use Rattle.flash.specs.Numbers.{answer, number}
 use Rattle.chips.proofs.Checked.{err_refused}
-use Rattle.chips.proofs.ImageCalls.{program_makes, standing_some}
+use Rattle.chips.proofs.ImageCalls.{program_makes, shown_shows, shown_standing}
 use Rattle.chips.proofs.image.CardImageFlash.program.Goals as goal
 
-pub returns-in_err-check_program : goal.returns-in_err-check_program
-returns-in_err-check_program c =
-    let seen = spot (memory_of_image c.args.self.now) c.args.at.bank c.args.at.block in
-    let shows = standing_some seen _ (sym c.standing.ensures ∙ c.in_ok-standing.ensures.ok_part) in
-    let told = ap answer (search rules) ∙ c.check_program.ensures.answer seen c.args.bytes.now shows refl in
-    let r = c.from_residual-in_err-check_program.result in
+pub returns-in_err-check_page : goal.returns-in_err-check_page
+returns-in_err-check_page c =
+    let seen = rw c.in_ok-block.ensures.ok_part at c.block.ensures in
+    let r = c.from_residual-in_err-check_page.result in
+    let same : answer r ≡ number c.in_err-check_page.field-0.0 = search rules in
+    let told = same ∙ c.in_err-check_page.ensures.refused _ _ c.args.bytes.now (shown_shows seen.shown _ seen.same _ refl) refl in
+    record { answer = told; after = err_refused r _ _ _ (search rules) told; shape = refl; bytes = err_refused r _ _ _ (search rules) told }
+
+pub returns-in_err-check_next : goal.returns-in_err-check_next
+returns-in_err-check_next c =
+    let seen = rw c.in_ok-block.ensures.ok_part at c.block.ensures in
+    let shows = shown_shows seen.shown _ seen.same _ (c.standing.ensures c.args.self.now.shape.pages seen.long) in
+    let passed = c.in_ok-check_page.ensures.passed in
+    let r = c.from_residual-in_err-check_next.result in
+    let same : answer r ≡ answer c.check_next.result = search rules in
+    let told = same ∙ c.check_next.ensures.answer _ _ c.args.bytes.now shows passed.0 passed.1 in
     record { answer = told; after = err_refused r _ _ _ (search rules) told; shape = refl; bytes = err_refused r _ _ _ (search rules) told }
 
 pub invariant_of-self : goal.invariant_of-self
 invariant_of-self c =
-    let some = sym c.standing.ensures ∙ c.in_ok-standing.ensures.ok_part in
-    record { named = (program_makes c.place_of-place.ensures c.args.self.now.named c.args.page _ _ _ some c.in_ok-check_program.ensures.passed c.write_page.ensures).named }
+    let seen = rw c.in_ok-block.ensures.ok_part at c.block.ensures in
+    let some = shown_standing seen.shown _ seen.same _ (c.standing.ensures c.args.self.now.shape.pages seen.long) in
+    let passed = c.in_ok-check_page.ensures.passed in
+    record { named = (program_makes c.place_of-place.ensures c.args.self.now.named c.args.page _ _ _ some (passed.0, (c.in_ok-check_next.ensures.passed, passed.1)) c.write_page.ensures).named }
 
 pub returns : goal.returns
 returns c =
-    let seen = spot (memory_of_image c.args.self.now) c.args.at.bank c.args.at.block in
-    let some = sym c.standing.ensures ∙ c.in_ok-standing.ensures.ok_part in
-    let made = program_makes c.place_of-place.ensures c.args.self.now.named c.args.page _ _ _ some c.in_ok-check_program.ensures.passed c.write_page.ensures in
+    let seen = rw c.in_ok-block.ensures.ok_part at c.block.ensures in
+    let count = c.standing.ensures c.args.self.now.shape.pages seen.long in
+    let passed = c.in_ok-check_page.ensures.passed in
+    let made = program_makes c.place_of-place.ensures c.args.self.now.named c.args.page _ _ _ (shown_standing seen.shown _ seen.same _ count)
+    (passed.0, (c.in_ok-check_next.ensures.passed, passed.1)) c.write_page.ensures in
     record {
-      answer = c.in_ok-check_program.ensures.answer seen c.args.bytes.now (standing_some seen _ some) refl;
+      answer = c.in_ok-check_next.ensures.answer _ _ c.args.bytes.now (shown_shows seen.shown _ seen.same _ count) passed.0 passed.1;
       after = made.shown;
       shape = refl;
       bytes = made.bytes;
