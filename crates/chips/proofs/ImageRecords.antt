@@ -1,18 +1,35 @@
 -- The record of a block: which of its pages stand, what a page that is written changes of it, and a blank one.
-use Rattle.std.proofs.Common.{◌≡◌, ℕ, zero, suc, ◌+◌, ◌-◌, ◌*◌, ◌<◌, ◌≤◌, min, Bool, true, false, cond, ltb, nat_eq, ◌≢◌, List, [], ◌∷◌, ◌++◌, map, length, get_or, take, drop, replicate, Decides, MatchOption, None, Option, Some, inl, inr, sym, refl, ap, ◌∙◌, ⊎_elim, arith}
+use Rattle.std.proofs.Common.{◌≡◌, ℕ, zero, suc, ◌+◌, ◌-◌, ◌*◌, ◌<◌, ◌≤◌, min, Bool, true, false, cond, not, ltb, nat_eq, ◌≢◌, List, [], ◌∷◌, ◌++◌, map, length, get_or, take, drop, replicate, Decides, MatchOption, None, Option, Some, inl, inr, sym, subst, refl, ap, ◌∙◌, ⊎_elim, arith}
 use Rattle.std.specs.Cmp.Lexicographic.{pointwise}
-use Rattle.std.specs.List.{enumerate_from, list_all, range_with_len}
+use Rattle.std.specs.List.{list_all, position_or_len, prefix_len, range_with_len}
 use Rattle.std.proofs.lemmas.Bool.{and_from, and_parts, cases_Bool, cases_eq, cases_lt, cond-false, cond-true, lt-ltb}
 use Rattle.std.proofs.lemmas.Bool.Decides.{nat_tests, same_from_decides}
 use Rattle.std.proofs.lemmas.List.{drop-drop, drop-replicate, drop-take, length-replicate, take_all, take-replicate, take-take}
-use Rattle.std.proofs.lemmas.List.FromFn.{map-range_with_len_more}
+use Rattle.std.proofs.lemmas.List.FromFn.{get_or-map-range_with_len, length-map-range_with_len, map-range_with_len_more}
+use Rattle.std.proofs.lemmas.List.Sums.{prefix_len-le-length, prefix_len_is, prefix_len_passes}
 use Rattle.flash.specs.Calls.{written}
 use Rattle.flash.specs.declared.Shape.{Shape}
 use Rattle.chips.specs.ImageBlank.{blank_block}
+use Rattle.chips.specs.ImageBounded.{standing_most}
 use Rattle.chips.specs.ImageLayout.{blank_mark, block_in, block_mark, block_size, is_marked, lives_in, mark_fits, pages_fit, page_in, page_record, page_start, block_fits, standing_in, standing_mark, stands, with_page}
-use Rattle.chips.proofs.Chains.{enumerate-map-range, list_all-map-range}
+use Rattle.chips.proofs.Chains.{list_all-map-range, pieces_back}
 use Rattle.chips.proofs.Pages.{same_counted}
 use Rattle.chips.proofs.Stretches.{each_below, length-put, put_apart, put_outside, put_part}
+
+-- ---- the marks of a page
+abbrev pub standing_test : List ℕ → Bool
+standing_test x = is_marked x standing_mark
+
+abbrev pub blank_test : List ℕ → Bool
+blank_test x = is_marked x blank_mark
+
+blank_stands_not : (x : List ℕ) → blank_test x ≡ true → standing_test x ≡ false
+blank_stands_not [] e = refl
+blank_stands_not (a ∷ []) e = grind (arith, nat_tests)
+blank_stands_not (a ∷ b ∷ xs) e = grind (arith, nat_tests)
+
+not_below : (p n : ℕ) → n ≤ p → ltb p n ≡ false
+not_below p n h = grind (arith, nat_tests)
 
 -- ---- which pages stand
 module _ (r : List ℕ) where
@@ -60,36 +77,113 @@ module _ (r : List ℕ) where
       ∙ (take-take 512 (2050 - n) (drop n rest) (omega arith)
       ∙ ap (take 512) (drop-drop n (page_start p) r ∙ ap (λ i. drop i r) {x = page_start p + n} {y = page_start p + 2 + q * 512} (omega arith)))
 
-  -- what a search from the back finds
-  pub standing_from_last : (n : ℕ) (last : Option ℕ) (count : ℕ)
-      → MatchOption last ((k : ℕ) → k < n → is_marked (take 2050 (drop (k * 2050) (drop 4 r))) standing_mark ≡ false)
-      (λ i. (i < n) × (is_marked (take 2050 (drop (i * 2050) (drop 4 r))) standing_mark ≡ true) × ((k : ℕ) → i < k → k < n → is_marked (take 2050 (drop (k * 2050) (drop 4 r))) standing_mark ≡ false))
-      → MatchOption last (count ≡ 0) (λ i. count ≡ i + 1) → count ≡ standing_in r n
-  standing_from_last n None count h told =
-      told ∙ sym (none_stand n (λ q l. ap (λ x. is_marked x standing_mark) (sym (page_is q)) ∙ h q l))
-  standing_from_last n (Some i) count h told =
-      told
-      ∙ sym (last_stands n i h.0 (ap (λ x. is_marked x standing_mark) (sym (page_is i)) ∙ h.1) (λ q a b. ap (λ x. is_marked x standing_mark) (sym (page_is q)) ∙ h.2 q a b))
+  -- the page p, as it is cut from the records of the pages alone
+  abbrev cut : ℕ → List ℕ
+  cut p = take 2050 (drop (p * 2050) (drop 4 r))
 
-  -- what a test of each numbered page finds
-  pub pages_in_order : (n m : ℕ)
-      → list_all (λ (p : ℕ × List ℕ). is_marked p.1 (cond (ltb p.0 n) standing_mark blank_mark)) (enumerate_from 0 (map (λ p. take 2050 (drop (p * 2050) (drop 4 r))) (range_with_len 0 m))) ≡ pages_fit r n m
-  pages_in_order n m =
-      let test : ℕ × List ℕ → Bool = λ p. is_marked p.1 (cond (ltb p.0 n) standing_mark blank_mark) in
-      let each = list_all-map-range test (λ p. (p, take 2050 (drop (p * 2050) (drop 4 r)))) m 0 in
-      ap (list_all test) (enumerate-map-range (λ p. take 2050 (drop (p * 2050) (drop 4 r))) m 0)
-      ∙ same_from_decides _ _ (
-        λ e p l. ap (λ x. is_marked x (cond (ltb p n) standing_mark blank_mark)) (sym (page_is p)) ∙ each.0 e p (omega arith) (omega arith),
-        λ h. each.1 (λ p a b. ap (λ x. is_marked x (cond (ltb p n) standing_mark blank_mark)) (page_is p) ∙ h p (omega arith)),
-      )
-      (pages_each n m)
+  -- ---- a search from the back: how many pages come after the last that stands
+  module _ (n : ℕ) where
+    abbrev pub from_back : List (List ℕ)
+    from_back = pieces_back 2050 (omega arith) (drop 4 r) n
+
+    abbrev pub after_last : ℕ
+    after_last = position_or_len standing_test from_back
+
+  standing_after : (n : ℕ) → standing_in r n + after_last n ≡ n
+  standing_after zero = omega arith
+  standing_after (suc n) =
+      let same = ap (λ x. not (standing_test x)) (page_is n) in
+      ⊎_elim
+      (λ e. omega (arith, cond-true (stands r n) (suc n) (standing_in r n) e, cond-false (not (standing_test (cut n))) (1 + after_last n) 0 (same ∙ ap not e)))
+      (λ e.
+      omega (arith, cond-false (stands r n) (suc n) (standing_in r n) e, cond-true (not (standing_test (cut n))) (1 + after_last n) 0 (same ∙ ap not e), standing_after n))
+      (cases_Bool (stands r n))
+
+  length-from_back : (n : ℕ) → length (from_back n) ≡ n
+  length-from_back zero = refl
+  length-from_back (suc n) = omega (arith, length-from_back n)
+
+  pub standing_from_back : (n : ℕ) (after : Option ℕ) (count : ℕ) → after ≡ cond (ltb (after_last n) (length (from_back n))) (Some (after_last n)) None
+      → MatchOption after (count ≡ 0) (λ i. count ≡ n - i) → count ≡ standing_in r n
+  standing_from_back n after count found told =
+      let all = length (from_back n) in
+      let last = after_last n in
+      let at : (o : Option ℕ) → after ≡ o → MatchOption o (count ≡ 0) (λ i. count ≡ n - i) = λ o e. subst (λ v. MatchOption v (count ≡ 0) (λ i. count ≡ n - i)) e told in
+      ⊎_elim
+      (λ low. omega (arith, standing_after n, at (Some last) (found ∙ cond-true (ltb last all) (Some last) None (lt-ltb last all low))))
+      (λ high. omega (arith, standing_after n, length-from_back n, at None (found ∙ cond-false (ltb last all) (Some last) None (not_below last all high))))
+      (cases_lt last all)
+
+  -- ---- a search from the front: the first m stand, and no others
+  first_stand : (n m : ℕ) → m ≤ n → ((q : ℕ) → q < m → stands r q ≡ true) → ((q : ℕ) → m ≤ q → q < n → stands r q ≡ false) → standing_in r n ≡ m
+  first_stand zero m l has lacks = omega arith
+  first_stand (suc n) m l has lacks =
+      ⊎_elim
+      (λ all. cond-true (stands r n) (suc n) _ (has n (omega (arith, all))) ∙ sym all)
+      (λ other. cond-false (stands r n) (suc n) _ (lacks n (omega (arith, other)) (omega arith)) ∙ first_stand n m (omega (arith, other)) has (λ q a b. lacks q a (omega arith)))
+      (cases_eq m (suc n))
+
+  -- the mark that a page must have
+  mark_low : (n p : ℕ) → p < n → mark_fits r n p ≡ stands r p
+  mark_low n p h = ap (λ b. is_marked (page_record r p) (cond b standing_mark blank_mark)) (lt-ltb p n h)
+
+  mark_high : (n p : ℕ) → n ≤ p → mark_fits r n p ≡ blank_test (page_record r p)
+  mark_high n p h = ap (λ b. is_marked (page_record r p) (cond b standing_mark blank_mark)) (not_below p n h)
+
+  module _ (n : ℕ) where
+    abbrev pub from_front : List (List ℕ)
+    from_front = map cut (range_with_len 0 n)
+
+    many : length from_front ≡ n
+    many = length-map-range_with_len cut 0 n
+
+    this : (p : ℕ) → p < n → get_or from_front p [] ≡ page_record r p
+    this p l = get_or-map-range_with_len cut 0 n p p [] l (omega arith) ∙ page_is p
+
+    -- how many stand before the first that does not
+    abbrev pub lead : ℕ
+    lead = prefix_len standing_test from_front
+
+    pub lead_most : lead ≤ n
+    lead_most = omega (arith, many, prefix_len-le-length standing_test from_front)
+
+    lead_stands : (q : ℕ) → q < lead → stands r q ≡ true
+    lead_stands q l = ap standing_test (sym (this q (omega (arith, lead_most)))) ∙ prefix_len_passes standing_test from_front q [] l
+
+    -- and the pages after those, as they are cut where these end
+    abbrev pub others : List ℕ
+    others = drop (lead * 2050) (drop 4 r)
+
+    other_is : (k p : ℕ) → lead + k ≡ p → take 2050 (drop (k * 2050) others) ≡ page_record r p
+    other_is k p e =
+        ap (take 2050) (drop-drop (k * 2050) (lead * 2050) (drop 4 r) ∙ ap (λ i. drop i (drop 4 r)) {x = lead * 2050 + k * 2050} {y = p * 2050} (omega (arith, e))) ∙ page_is p
+
+    -- pages fit where all of these are blank
+    pub pages_in_order : list_all blank_test (map (λ k. take 2050 (drop (k * 2050) others)) (range_with_len 0 (n - lead))) ≡ pages_fit r (standing_in r n) n
+    pages_in_order =
+        let s = standing_in r n in
+        let each = list_all-map-range blank_test (λ k. take 2050 (drop (k * 2050) others)) (n - lead) 0 in
+        same_from_decides _ _ (
+          λ e p l.
+              let blank : (k : ℕ) → lead ≤ k → k < n → blank_test (page_record r k) ≡ true =
+              λ k a b. ap blank_test (sym (other_is (k - lead) k (omega arith))) ∙ each.0 e (k - lead) (omega arith) (omega arith) in
+              let count = first_stand n lead lead_most lead_stands (λ q a b. blank_stands_not (page_record r q) (blank q a b)) in
+              ⊎_elim
+              (λ low. mark_low s p low ∙ lead_stands p (omega arith))
+              (λ high. mark_high s p high ∙ blank p (omega arith) l)
+              (cases_lt p s),
+          λ h.
+              let most = standing_most r n in
+              let same : lead ≡ s =
+              prefix_len_is standing_test from_front s [] (omega (arith, many)) (λ k l. ap standing_test (this k (omega arith)) ∙ (sym (mark_low s k l) ∙ h k (omega arith)))
+              (λ l. ap standing_test (this s (omega (arith, many))) ∙ blank_stands_not (page_record r s) (sym (mark_high s s (omega arith)) ∙ h s (omega (arith, many)))) in
+              each.1 (λ k a b. ap blank_test (other_is k (lead + k) (omega arith)) ∙ (sym (mark_high s (lead + k) (omega arith)) ∙ h (lead + k) (omega arith))),
+        )
+        (pages_each s n)
 
 -- a number that is not the next one is below the next one where it is below this one
 ltb_next : (q p : ℕ) → q ≢ p → ltb q (p + 1) ≡ ltb q p
 ltb_next q p h = grind (arith, nat_tests)
-
-below_none : (q : ℕ) → ltb q 0 ≡ false
-below_none q = grind (arith, nat_tests)
 
 -- ---- the page p is written, the first that does not stand
 module _ (r page : List ℕ) (depth p : ℕ) (whole : length r ≡ 4 + 2050 * depth) (low : p < depth) (long : length page ≡ 2048) (next : standing_in r depth ≡ p) where
@@ -164,7 +258,7 @@ module _ (s : Shape) (lives : ℕ) where
   pub fits_blank : block_fits blank s.pages ≡ true
   fits_blank =
       ap (λ n. pages_fit blank n s.pages) standing_blank
-      ∙ (pages_each blank 0 s.pages).1 (λ q l. λ t. is_marked (page_blank q l t) (cond (below_none q t) standing_mark blank_mark))
+      ∙ (pages_each blank 0 s.pages).1 (λ q l. λ t. is_marked (page_blank q l t) (cond (not_below q 0 (omega arith) t) standing_mark blank_mark))
 
   pub block_blank : lives < 65536 → block_in blank s.pages ≡ record { pages = []; lives = lives }
   block_blank h =

@@ -28,28 +28,29 @@ impl<'a> BlockView<'a> {
         ensures { (n : ℕ) → length self.now.bytes.now ≡ 4 + 2050 * n → result ≡ standing_in self.now.bytes.now n }
     {
         let pages = &self.bytes[BLOCK_HEAD..];
-        // `chunks`, since nothing is promised of what `chunks_exact` gives from the back. All are whole.
-        let last = pages
-            .chunks(PAGE_RECORD)
-            .rposition(|page| page.starts_with(&STANDING_MARK));
-        last.map_or(0, |last| last + 1)
+        // `rchunks_exact`, since from the back `chunks` and `chunks_exact` divide at each step. All pages are whole.
+        let after = pages
+            .rchunks_exact(PAGE_RECORD)
+            .position(|page| page.starts_with(&STANDING_MARK));
+        after.map_or(0, |after| pages.len() / PAGE_RECORD - after)
     }
 
-    // Whether the block has its mark, and each page up to the last that stands is marked as standing, and the others as blank.
+    // Whether the block has its mark, and its pages are marked as standing, and from some page on as blank. Opening asks this of every
+    // block, so it is one pass over the marks.
     pub(super) fn fits(&self) -> bool
         ensures { (n : ℕ) → length self.now.bytes.now ≡ 4 + 2050 * n → result ≡ block_fits self.now.bytes.now n }
     {
-        let standing = self.standing();
+        if !self.bytes.starts_with(&BLOCK_MARK) {
+            return false;
+        }
         let pages = &self.bytes[BLOCK_HEAD..];
-        self.bytes.starts_with(&BLOCK_MARK)
-            && pages.chunks_exact(PAGE_RECORD).enumerate().all(|(i, page)| {
-                let mark = if i < standing {
-                    STANDING_MARK
-                } else {
-                    BLANK_MARK
-                };
-                page.starts_with(&mark)
-            })
+        let standing = pages
+            .chunks_exact(PAGE_RECORD)
+            .take_while(|page| page.starts_with(&STANDING_MARK))
+            .count();
+        pages[standing * PAGE_RECORD..]
+            .chunks_exact(PAGE_RECORD)
+            .all(|page| page.starts_with(&BLANK_MARK))
     }
 
     // One quarter of a page's data.

@@ -1,19 +1,27 @@
-use Rattle.std.proofs.Common.{◌≡◌, ℕ, ◌*◌, true, cond, ◌&&◌, length, ltb, List, drop, sym, ap, ◌∙◌, rules, tests, arith}
-use Rattle.std.proofs.lemmas.Iterator.Consumers.{YieldsList-at, YieldsList-from_enumerate}
-use Rattle.std.proofs.lemmas.Iterator.Search.{all_from_yields_List}
+use Rattle.std.proofs.Common.{◌≡◌, ◌-◌, ◌*◌, true, ◌&&◌, length, drop, sym, ap, ◌∙◌, rules, tests, arith}
+use Rattle.std.proofs.lemmas.Iterator.Consumers.{YieldsList-at, count_from_yields_List}
+use Rattle.std.proofs.lemmas.Iterator.Search.{YieldsList-from_take_while, all_from_yields_List}
 use Rattle.std.proofs.lemmas.List.{length-drop, take_rest}
-use Rattle.chips.specs.ImageLayout.{blank_mark, block_mark, is_marked, pages_fit, standing_in, standing_mark}
+use Rattle.std.proofs.lemmas.List.Folds.{length-prefix_len}
+use Rattle.chips.specs.ImageLayout.{block_mark, is_marked, pages_fit, standing_in}
 use Rattle.chips.proofs.Chains.{YieldsList-from_chunks}
-use Rattle.chips.proofs.ImageRecords.{pages_in_order}
+use Rattle.chips.proofs.ImageRecords.{blank_test, from_front, lead, lead_most, others, pages_in_order, standing_test}
 use Rattle.chips.proofs.image.records.BlockView.fits.Goals as goal
 
-pub returns-then-starts_with : goal.returns-then-starts_with
-returns-then-starts_with c n long =
+pub returns : goal.returns
+returns c n long =
     let r = c.args.self.now.bytes.now in
     let pages : length (drop 4 r) ≡ n * 2050 = simp length-drop (omega arith) in
-    let told = all_from_yields_List (λ (p : ℕ × List ℕ). is_marked p.1 (cond (ltb p.0 c.standing-standing.result) standing_mark blank_mark)) _ _ c.all.result c.all.ensures.ran
-    (YieldsList-from_enumerate (YieldsList-at c.enumerate.ensures.source (YieldsList-from_chunks 2050 (omega arith) (drop 4 r) n c.chunks_exact.ensures.size (c.chunks_exact.ensures.rest ∙ take_rest r 4) pages)) c.enumerate.ensures.count)
+    let most = lead_most r n in
+    let count : c.count-standing.result ≡ lead r n =
+    count_from_yields_List c.take_while.result c.count-standing.result c.count-standing.ensures.ran
+    (YieldsList-from_take_while _ standing_test
+    (YieldsList-at c.take_while.ensures.source (YieldsList-from_chunks 2050 (omega arith) (drop 4 r) n c.chunks_exact.ensures.size (c.chunks_exact.ensures.rest ∙ take_rest r 4) pages))
+    c.take_while.ensures.closure c.take_while.ensures.done (λ x b q k. search (rules, tests)))
+    ∙ length-prefix_len standing_test (from_front r n) in
+    let rest : length (others r n) ≡ (n - lead r n) * 2050 = simp length-drop (omega arith) in
+    let told = all_from_yields_List blank_test _ _ c.all.result c.all.ensures.ran
+    (YieldsList-from_chunks 2050 (omega arith) (others r n) (n - lead r n) c.chunks_exact-2.ensures.size (c.chunks_exact-2.ensures.rest ∙ (take_rest _ (c.count-standing.result * 2050) ∙ (λ t. drop (count t * 2050) (take_rest r 4 t)))) rest)
     (λ x b q k. search (rules, tests)) in
-    let marks = told ∙ (pages_in_order r c.standing-standing.result n ∙ ap (λ m. pages_fit r m n) (c.standing-standing.ensures n long)) in
     let marked : is_marked r block_mark ≡ true = search rules in
-    marks ∙ sym (ap (λ b. b && pages_fit r (standing_in r n) n) marked)
+    told ∙ (pages_in_order r n ∙ sym (ap (λ b. b && pages_fit r (standing_in r n) n) marked))
