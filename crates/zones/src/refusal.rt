@@ -6,35 +6,36 @@ ghost use Rattle.zones.specs.Numbers.{refusal_number};
 #[derive(Clone, Copy, PartialEq, Eq, Debug)]
 pub enum CardRefusal {
     // the card is not formed yet
-    Unformed = 11,
+    Unformed,
     // the card is formed already
-    Formed = 12,
+    Formed,
     // the numbers of the form do not fit the flash
-    Shape = 13,
+    Shape,
     // a page of the flash stands
-    Printed = 14,
+    Printed,
     // the bytes, the map or the list have a wrong length
-    Length = 15,
+    Length,
     // there is no such address, zone or offset
-    Range = 16,
+    Range,
     // the zone is not in the state that the call needs
-    State = 17,
+    State,
     // the write does not begin at the write pointer
-    Pointer = 18,
+    Pointer,
     // the write meets a kept sector
-    Kept = 19,
+    Kept,
     // as many zones as allowed are open or threaded
-    OpenLimit = 20,
+    OpenLimit,
     // no group is free
-    NoGroup = 21,
+    NoGroup,
 }
 
-// The number by which hosts know the refusal.
+// The number by which hosts know the refusal. The refusals stand in the order of their numbers, from 11 on; by `as` a refusal gives its
+// place in that order, from 0 on, as a table of texts needs it.
 impl From<CardRefusal> for usize {
     ghost from_gives = { λ refusal n. n ≡ refusal_number refusal };
 
     fn from(refusal: CardRefusal) -> usize {
-        refusal as usize
+        refusal as usize + 11
     }
 }
 
