@@ -3,6 +3,8 @@ ghost use Rattle.std.specs.Prelude.{◌≡◌, not, position};
 ghost use Rattle.std.specs.Iterator.{YieldsFirstRef, item_count};
 ghost use Rattle.session.specs.Lines.{white, words, words_left};
 
+use std::mem;
+
 // What is left of a line, from which words are taken one by one. What it stands for is said by the iterator's own
 // members. A type of its own, and no chain of `split` and `filter`: that would have the type of two closures, which no
 // contract can name.
@@ -49,7 +51,9 @@ impl<'a> Iterator for Words<'a> {
     ghost remaining = { item_count words_left };
 
     fn next(&mut self) -> Option<&'a [u8]> {
-        let line = &self.rest[start(self.rest)?..];
+        // what has no word is not put back, or each later call would go over it again
+        let rest = mem::take(&mut self.rest);
+        let line = &rest[start(rest)?..];
         let (word, rest) = line.split_at(end(line).unwrap_or(line.len()));
         self.rest = rest;
         Some(word)
