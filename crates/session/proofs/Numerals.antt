@@ -1,39 +1,39 @@
--- What std's parser makes of a word of digits.
-use Rattle.std.proofs.Common.{◌≡◌, ℕ, ◌-◌, ◌^◌, ◌<◌, min, true, false, List, [], ◌∷◌, length, Some, Ok, Err, Result, refl, ap, rules, arith}
-use Rattle.std.proofs.lemmas.Str.{IsUtf8-from_ascii}
-use Rattle.std.proofs.lemmas.Fmt.{IsAscii-from_digits}
-use Rattle.std.proofs.lemmas.Str.Parse.{IsNumeralModel, numerals_by_value, parse_digits}
+-- The digits of a word, read one by one.
+use Rattle.std.proofs.Common.{◌≡◌, ℕ, ◌+◌, ◌-◌, ◌*◌, ◌%◌, ◌^◌, ◌<◌, min, true, List, [], ◌∷◌, length, fold, Some, refl, rules, arith}
+use Rattle.std.proofs.lemmas.Str.Parse.{IsDigitsTest, IsNumeralModel, numerals_by_fold}
 use Rattle.std.specs.Char.{is_ascii_digit}
 use Rattle.std.specs.List.{list_all}
-use Rattle.std.specs.Result.{result_unwrap_or, OkIff}
-use Rattle.std.specs.Str.{IsUtf8}
-use Rattle.std.specs.Str.Parse.{digits_value, ParsesUnsigned}
 use Rattle.session.specs.Numbers.{numeral, value}
-
--- digits are what std's parser takes for digits
-own : IsNumeralModel (λ ds. list_all is_ascii_digit ds ≡ true) (digits_value 10)
-own = numerals_by_value _ (search rules)
 
 pub some_is : (word : List ℕ) → 0 < length word → numeral word ≡ list_all is_ascii_digit word
 some_is [] h = absurd (omega arith)
 some_is (d ∷ ds) h = refl
 
-record Digits (word : List ℕ) : Type 0 where
-  some : 0 < length word
-  all : list_all is_ascii_digit word ≡ true
+all_digits : (word : List ℕ) → numeral word ≡ true → list_all is_ascii_digit word ≡ true
+all_digits [] e = refl
+all_digits (d ∷ ds) e = e
 
-digits : (word : List ℕ) → numeral word ≡ true → Digits word
-digits [] e = let z : false ≡ true = e in cc
-digits (d ∷ ds) e = record { some = omega arith; all = e }
+-- the number that digits write in decimal, where those before them write n
+abbrev decimal_after : ℕ → List ℕ → ℕ
+decimal_after n [] = n
+decimal_after n (d ∷ ds) = decimal_after (n * 10 + (d - 48)) ds
 
--- a word of digits is text
-pub text : (word : List ℕ) → numeral word ≡ true → IsUtf8 word
-text word e = IsUtf8-from_ascii word (IsAscii-from_digits word (own.to word (digits word e).all))
+-- digits are what std takes for digits, and that number is theirs
+tells : IsDigitsTest (λ ds. list_all is_ascii_digit ds ≡ true)
+tells = search rules
 
--- its value n, where the parser fails only if there are too many digits
-pub parsed : {E : Type 0} (word bs : List ℕ) (r : Result ℕ E) (n : ℕ) → numeral word ≡ true → bs ≡ word → ParsesUnsigned 64 10 bs r → n ≡ result_unwrap_or r 18446744073709551615 → Some n ≡ value word
-parsed word bs r n e same h is = rw (e, is) (by r (parse_digits own 64 word r (rw same at h) (digits word e).all))
-  where
-    by : {E : Type 0} (r : Result ℕ E) → OkIff r ((0 < length word) × (digits_value 10 word < 2 ^ 64)) (digits_value 10 word) → Some (result_unwrap_or r 18446744073709551615) ≡ Some (min (digits_value 10 word) (2 ^ 64 - 1))
-    by (Ok m) f = ap (λ x. Some x) (omega (arith, f))
-    by (Err d) f = let many : digits_value 10 word < 2 ^ 64 → ⊥ = λ l. f ((digits word e).some, l) in ap (λ x. Some x) (omega arith)
+own : IsNumeralModel (λ ds. list_all is_ascii_digit ds ≡ true) (decimal_after 0)
+own = numerals_by_fold _ tells decimal_after (search rules)
+
+-- a number with one digit more, at most the largest usize
+abbrev pub digit_more : ℕ → ℕ → ℕ
+digit_more n d = min (min (n * 10) (2 ^ 64 - 1) + (d + (2 ^ 8 - 48)) % 2 ^ 8) (2 ^ 64 - 1)
+
+-- what is over the largest before more digits are read makes no difference after
+capped : (m n : ℕ) (ds : List ℕ) → list_all is_ascii_digit ds ≡ true → m ≡ min n (2 ^ 64 - 1) → fold digit_more m ds ≡ min (decimal_after n ds) (2 ^ 64 - 1)
+capped m n [] h e = e
+capped m n (d ∷ ds) h e = let p = tells.parts d ds h in capped (digit_more m d) (n * 10 + (d - 48)) ds p.1 (omega (arith, e, p.0))
+
+-- the value of a word of digits
+pub read : (word : List ℕ) (n : ℕ) → numeral word ≡ true → n ≡ fold digit_more 0 word → Some n ≡ value word
+read word n e is = let all = all_digits word e in rw (e, is, capped 0 0 word all refl, own.same word (own.to word all)) refl

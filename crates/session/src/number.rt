@@ -2,8 +2,6 @@
 ghost use Rattle.std.specs.Prelude.{◌≡◌};
 ghost use Rattle.session.specs.Numbers.{numeral, value};
 
-use std::str;
-
 // Whether a word has one decimal digit or more and nothing else.
 fn is_numeral(word: &[u8]) -> bool
     ensures { result ≡ numeral word.now }
@@ -18,6 +16,10 @@ pub fn number(word: &[u8]) -> Option<usize>
     if !is_numeral(word) {
         return None;
     }
-    // digits are text, and alone fail to parse only where there are too many
-    Some(str::from_utf8(word).unwrap().parse().unwrap_or(usize::MAX))
+    let value = word.iter().fold(0, |n: usize, b| {
+        // no digit lies below `0`, so this does not wrap
+        let digit = usize::from(b.wrapping_sub(b'0'));
+        n.saturating_mul(10).saturating_add(digit)
+    });
+    Some(value)
 }
