@@ -1,5 +1,5 @@
 -- What a bare chip shows of one block, and of all blocks after one has changed.
-use Rattle.std.proofs.Common.{◌≡◌, ℕ, ◌+◌, ◌*◌, ◌<◌, ◌≤◌, true, ◌≢◌, min, List, length, set, None, Some, cond, refl, sym, ap, ◌∙◌, arith}
+use Rattle.std.proofs.Common.{◌≡◌, ℕ, ◌+◌, ◌*◌, ◌<◌, ◌≤◌, true, ◌≢◌, List, All, length, set, None, Some, cond, refl, sym, ap, ◌∙◌, arith}
 use Rattle.std.specs.Prelude.{nat_lt}
 use Rattle.std.proofs.lemmas.List.{get_or-set_same, get_or-set_other}
 use Rattle.std.proofs.lemmas.List.Folds.{list_all_at}
@@ -23,14 +23,15 @@ pub counts_each : (depth : ℕ) (records : List BlockRecord) → counts_fit dept
 counts_each depth records e i h = grind (arith, nat_tests, list_all_at)
 
 -- parts that fit are those of a chip
-pub whole_of : (c : Parts) → sizes_fit c ≡ true → counts_fit c.shape.pages c.records ≡ true → Whole c
-whole_of c e n =
+pub whole_of : (c : Parts) → sizes_fit c ≡ true → counts_fit c.shape.pages c.records ≡ true → All (λ r. r.lives < 65536) c.records → Whole c
+whole_of c e n small =
     let sizes = sizes_of c e in
     record {
       shape = ranged_shape sizes.ranges;
       bytes = omega (arith, sizes.bytes);
       records = omega (arith, sizes.records);
       counts = λ i h. counts_each c.shape.pages c.records n i (omega (arith, sizes.records));
+      lives = λ i h. small i no_record (omega (arith, sizes.records));
     }
 
 -- a block that the shape contains
@@ -69,8 +70,8 @@ module _ {c : Parts} {b k i : ℕ} (whole : Whole c) (found : Found c.shape b k 
   pub found_standing : {n : ℕ} → n ≡ (record_at c.records i).standing → standing_at (spot (laid_out c) b k) ≡ Some n
   found_standing count = let shows = found_shows count in (λ t. cond (shows.here t) (Some (shows.stands t)) None)
 
-  pub found_lives : {n : ℕ} → n ≡ (record_at c.records i).lives → n < 65536 → lives_at (spot (laid_out c) b k) ≡ Some n
-  found_lives count fits = ap lives_at found_spot ∙ ap Some (omega arith)
+  pub found_lives : {n : ℕ} → n ≡ (record_at c.records i).lives → lives_at (spot (laid_out c) b k) ≡ Some n
+  found_lives count = ap lives_at found_spot ∙ ap Some (sym count)
 
   -- a chip with another record for the block, and bytes that leave the pages of the other blocks
   module _ (bytes : List ℕ) (r : BlockRecord)
@@ -84,7 +85,7 @@ module _ {c : Parts} {b k i : ℕ} (whole : Whole c) (found : Found c.shape b k 
     at_other : (j : ℕ) → j < block_count c.shape → j ≢ i → block_at changed j ≡ block_at c j
     at_other j h other =
         ap (block_of changed j) (get_or-set_other c.records i j r no_record other)
-        ∙ ap (λ ps. record { pages = ps; lives = min (record_at c.records j).lives 65535 })
+        ∙ ap (λ ps. record { pages = ps; lives = (record_at c.records j).lives })
         (apart j (record_at c.records j).standing (whole.counts j h) other)
 
     pub laid_out_changed : laid_out changed ≡ with_block (laid_out c) b k (block_of changed i r)

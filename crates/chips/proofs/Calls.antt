@@ -1,5 +1,5 @@
 -- What the calls answer of a block that the chip shows, and what they make of the chip.
-use Rattle.std.proofs.Common.{◌≡◌, ℕ, ◌+◌, ◌-◌, ◌*◌, ◌<◌, ◌≤◌, List, [], ◌∷◌, ◌++◌, min, length, get_or, take, drop, set, sym, refl, ap, ◌∙◌, arith}
+use Rattle.std.proofs.Common.{◌≡◌, ℕ, ◌+◌, ◌-◌, ◌*◌, ◌<◌, ◌≤◌, List, [], ◌∷◌, ◌++◌, length, get_or, take, drop, set, sym, refl, ap, ◌∙◌, arith}
 use Rattle.std.proofs.lemmas.List.FromFn.{get_or-map-range_with_len}
 use Rattle.flash.specs.Calls.{emptied, quarter_of, spot, with_block, written}
 use Rattle.chips.specs.Bounded.{page_fits}
@@ -26,9 +26,9 @@ module _ {c : Parts} {b k i : ℕ} (whole : Whole c) (found : Found c.shape b k 
       ap (λ bs. laid_out (made_of c.shape bs (set c.records i r))) put
       ∙ (laid_out_changed whole found now r (λ j n u other. pages_at_other c page i p fits long j n low u other)
       ∙ ap (with_block (laid_out c) b k)
-      ((λ t. record { pages = pages_at (made_of c.shape now c.records) i (more t); lives = min (same t) 65535 })
-      ∙ ((λ t. record { pages = pages_at_same c page i p fits long t; lives = min kept.lives 65535 })
-      ∙ ((λ t. record { pages = pages_at c i (is t) ++ page ∷ []; lives = min kept.lives 65535 })
+      ((λ t. record { pages = pages_at (made_of c.shape now c.records) i (more t); lives = same t })
+      ∙ ((λ t. record { pages = pages_at_same c page i p fits long t; lives = kept.lives })
+      ∙ ((λ t. record { pages = pages_at c i (is t) ++ page ∷ []; lives = kept.lives })
       ∙ sym (ap (λ s. written s.block page) (found_spot whole found))))))
 
   -- ---- read
@@ -40,9 +40,8 @@ module _ {c : Parts} {b k i : ℕ} (whole : Whole c) (found : Found c.shape b k 
       ∙ quarter_at c.bytes (i * c.shape.pages + p) q part)
 
   -- ---- erase
-  pub laid_out_erased : (r : BlockRecord) → r.standing ≡ 0 → r.lives ≡ kept.lives - 1 → kept.lives < 65536
+  pub laid_out_erased : (r : BlockRecord) → r.standing ≡ 0 → r.lives ≡ kept.lives - 1
       → laid_out (made_of c.shape c.bytes (set c.records i r)) ≡ with_block (laid_out c) b k (emptied ((laid_out c).at b k))
-  laid_out_erased r none fewer fits =
-      let less : min r.lives 65535 ≡ min kept.lives 65535 - 1 = omega (arith, fewer) in
+  laid_out_erased r none fewer =
       laid_out_changed whole found c.bytes r (λ j n u other. refl)
-      ∙ ap (with_block (laid_out c) b k) ((λ t. record { pages = pages_at c i (none t); lives = less t }) ∙ sym (ap (λ s. emptied s.block) (found_spot whole found)))
+      ∙ ap (with_block (laid_out c) b k) ((λ t. record { pages = pages_at c i (none t); lives = fewer t }) ∙ sym (ap (λ s. emptied s.block) (found_spot whole found)))

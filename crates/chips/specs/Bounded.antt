@@ -54,7 +54,7 @@ module _ (c : Parts) (whole : Whole c) where
             ap length (get_or-map-range_with_len f 0 r.standing p p [] u (omega arith))
             ∙ page_long c.bytes (i * c.shape.pages + p)
             (page_fits i p (block_count c.shape) c.shape.pages (length c.bytes) h (omega (arith, most)) whole.bytes);
-        lives = omega arith;
+        lives = whole.lives i h;
       }
 
   laid_out_bounds : Bounds (laid_out c)

@@ -1,5 +1,5 @@
 -- How the bytes and the records of a bare chip make a flash.
-use Rattle.std.specs.Prelude.{◌≡◌, ℕ, ◌+◌, ◌*◌, ◌<◌, ◌≤◌, Bool, cond, ◌&&◌, List, map, length, take, drop, ◌==◌, nat_le, min, slice_index_or}
+use Rattle.std.specs.Prelude.{◌≡◌, ℕ, ◌+◌, ◌*◌, ◌<◌, ◌≤◌, Bool, cond, ◌&&◌, List, map, length, take, drop, ◌==◌, nat_le, slice_index_or}
 use Rattle.std.specs.List.{list_all, range_with_len}
 use Rattle.flash.specs.Memory.{Memory, Block, no_banks}
 use Rattle.flash.specs.declared.Shape.{Shape}
@@ -27,9 +27,9 @@ page_at bytes j = take 2048 (drop (j * 2048) bytes)
 abbrev pub pages_at : Parts → ℕ → ℕ → List (List ℕ)
 pages_at c i n = map (λ p. page_at c.bytes (i * c.shape.pages + p)) (range_with_len 0 n)
 
--- the block with the number i, if r is its record; its lives are no more than 65535, and `min` only says so of numbers that are no `u16`
+-- the block with the number i, if r is its record
 abbrev pub block_of : Parts → ℕ → BlockRecord → Block
-block_of c i r = record { pages = pages_at c i r.standing; lives = min r.lives 65535 }
+block_of c i r = record { pages = pages_at c i r.standing; lives = r.lives }
 
 -- stands for a record past the last
 abbrev pub no_record : BlockRecord
@@ -70,11 +70,13 @@ new_memory c = cond (sizes_fit c && counts_fit c.shape.pages c.records) (laid_ou
 
 -- ---- what holds of the parts of every chip
 -- the shape is that of a flash, and each of its blocks has its bytes and its record, which counts no more standing pages than a block has
+-- and no more lives than a `u16` holds: a proof learns that of one record in a call that takes it, and so it stands here, for all of them
 pub record Whole (c : Parts) : Type 0 where
   pub shape : FlashShape c.shape
   pub bytes : block_count c.shape * c.shape.pages * 2048 ≤ length c.bytes
   pub records : block_count c.shape ≤ length c.records
   pub counts : (i : ℕ) → i < block_count c.shape → (record_at c.records i).standing ≤ c.shape.pages
+  pub lives : (i : ℕ) → i < block_count c.shape → (record_at c.records i).lives < 65536
 
 -- ---- what the chip's private functions tell
 -- the chip shows the block k of the bank b, and its number over the whole chip is i; the last two facts follow from those above and from

@@ -1,7 +1,7 @@
 // A bare chip: a flash over bytes and block records that its owner lends.
 // Both lie bank by bank and block by block, and the bytes of a block page by page. They stay two slices, since the owner's memory
 // has that form: the bytes of all pages, and a record for each block.
-ghost use Rattle.std.specs.Prelude.{◌≡◌, false, MatchOption, OnErr};
+ghost use Rattle.std.specs.Prelude.{◌≡◌, ◌<◌, true, false, All, MatchOption, OnErr};
 ghost use Rattle.flash.specs.Calls.{erase_number, erased, program_number, programmed, spot};
 ghost use Rattle.flash.specs.Memory.{in_shape};
 ghost use Rattle.flash.specs.Numbers.{answer};
@@ -31,11 +31,13 @@ fn sizes_fit(shape: Shape, bytes: &[u8], records: &[BlockRecord]) -> bool
         && bytes.len() == shape.banks * shape.blocks * shape.pages * PAGE
 }
 
-// Whether no record counts more standing pages than the pages of a block.
+// Whether no record counts more standing pages than the pages of a block. Any number of lives will do, and the call for each record
+// tells a proof that they fit their type.
 fn counts_fit(pages: usize, records: &[BlockRecord]) -> bool
-    ensures { result ≡ counts_fit pages records.now }
+    ensures answer { result ≡ counts_fit pages records.now }
+    ensures lives { result ≡ true → All (λ r. r.lives < 65536) records.now }
 {
-    records.iter().all(|one| usize::from(one.standing) <= pages)
+    records.iter().all(|one| one.fits_block(pages))
 }
 
 impl<'a> BareChip<'a> {

@@ -1,5 +1,5 @@
 // What a bare chip keeps of each block.
-ghost use Rattle.std.specs.Prelude.{◌≡◌};
+ghost use Rattle.std.specs.Prelude.{◌≡◌, ◌<◌, nat_le};
 
 #[derive(Clone, Copy, PartialEq, Eq, Debug)]
 pub struct BlockRecord {
@@ -16,6 +16,15 @@ impl BlockRecord {
         ensures lives { result.lives ≡ lives }
     {
         BlockRecord { standing: 0, lives }
+    }
+
+    // Whether a block of so many pages can have this record. Any number of lives will do: that they fit their type is what the call
+    // tells a proof.
+    pub(crate) fn fits_block(self, pages: usize) -> bool
+        ensures answer { result ≡ nat_le self.standing pages }
+        ensures lives { self.lives < 65536 }
+    {
+        usize::from(self.standing) <= pages
     }
 
     // The lives, in a call: it tells a proof that they fit their type, and a read of the field does not.
