@@ -70,8 +70,8 @@ module _ {c : Parts} {b k i : ℕ} (whole : Whole c) (found : Found c.shape b k 
   pub found_standing : {n : ℕ} → n ≡ (record_at c.records i).standing → standing_at (spot (laid_out c) b k) ≡ Some n
   found_standing count = let shows = found_shows count in (λ t. cond (shows.here t) (Some (shows.stands t)) None)
 
-  pub found_lives : {n : ℕ} → n ≡ (record_at c.records i).lives → lives_at (spot (laid_out c) b k) ≡ Some n
-  found_lives count = ap lives_at found_spot ∙ ap Some (sym count)
+  pub found_lives : lives_at (spot (laid_out c) b k) ≡ Some (record_at c.records i).lives
+  found_lives = ap lives_at found_spot
 
   -- a chip with another record for the block, and bytes that leave the pages of the other blocks
   module _ (bytes : List ℕ) (r : BlockRecord)

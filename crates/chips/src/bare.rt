@@ -92,7 +92,7 @@ impl<'a> Flash for BareChip<'a> {
 
     fn lives(&self, at: BlockAddress) -> Option<u16> {
         let i = self.number_of(at)?;
-        Some(self.records[i].lives_left())
+        Some(self.records[i].lives)
     }
 
     fn read(
@@ -133,7 +133,7 @@ impl<'a> Flash for BareChip<'a> {
         ensures refused { OnErr result (parts_of self.new ≡ parts_of self.old) }
     {
         let i = self.number_of(at).ok_or(Refusal::Outside)?;
-        let left = check_erase(self.records[i].lives_left())?;
+        let left = check_erase(self.records[i].lives)?;
         self.records[i] = BlockRecord::blank(left);
         Ok(())
     }

@@ -26,11 +26,4 @@ impl BlockRecord {
     {
         usize::from(self.standing) <= pages
     }
-
-    // The lives, in a call: it tells a proof that they fit their type, and a read of the field does not.
-    pub(crate) fn lives_left(self) -> u16
-        ensures { result ≡ self.lives }
-    {
-        self.lives
-    }
 }
