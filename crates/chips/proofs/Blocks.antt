@@ -32,6 +32,7 @@ whole_of c e n small =
       records = omega (arith, sizes.records);
       counts = λ i h. counts_each c.shape.pages c.records n i (omega (arith, sizes.records));
       lives = λ i h. small i no_record (omega (arith, sizes.records));
+      sizes = λ _. e;
     }
 
 -- a block that the shape contains

@@ -1,5 +1,5 @@
 -- How the bytes and the records of a bare chip make a flash.
-use Rattle.std.specs.Prelude.{◌≡◌, ℕ, ◌+◌, ◌*◌, ◌<◌, ◌≤◌, Bool, cond, ◌&&◌, List, map, length, take, drop, ◌==◌, nat_le, slice_index_or}
+use Rattle.std.specs.Prelude.{◌≡◌, ℕ, ◌+◌, ◌*◌, ◌<◌, ◌≤◌, Bool, true, cond, ◌&&◌, List, map, length, take, drop, ◌==◌, nat_le, slice_index_or}
 use Rattle.std.specs.List.{list_all, range_with_len}
 use Rattle.flash.specs.Memory.{Memory, Block, no_banks}
 use Rattle.flash.specs.declared.Shape.{Shape}
@@ -70,13 +70,15 @@ new_memory c = cond (sizes_fit c && counts_fit c.shape.pages c.records) (laid_ou
 
 -- ---- what holds of the parts of every chip
 -- the shape is that of a flash, and each of its blocks has its bytes and its record, which counts no more standing pages than a block has
--- and no more lives than a `u16` holds: a proof learns that of one record in a call that takes it, and so it stands here, for all of them
+-- and no more lives than a `u16` holds: a proof learns that of one record in a call that takes it, and so it stands here, for all of them.
+-- A chip with banks has no other bytes and records
 pub record Whole (c : Parts) : Type 0 where
   pub shape : FlashShape c.shape
   pub bytes : block_count c.shape * c.shape.pages * 2048 ≤ length c.bytes
   pub records : block_count c.shape ≤ length c.records
   pub counts : (i : ℕ) → i < block_count c.shape → (record_at c.records i).standing ≤ c.shape.pages
   pub lives : (i : ℕ) → i < block_count c.shape → (record_at c.records i).lives < 65536
+  pub sizes : 0 < c.shape.banks → sizes_fit c ≡ true
 
 -- ---- what the chip's private functions tell
 -- the chip shows the block k of the bank b, and its number over the whole chip is i; the last two facts follow from those above and from

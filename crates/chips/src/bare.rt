@@ -17,7 +17,7 @@ pub struct BareChip<'a> {
     shape: Shape,
     bytes: &'a mut [u8],
     records: &'a mut [BlockRecord],
-    // the shape is that of a flash, and each of its blocks has its bytes and its record
+    // the shape is that of a flash, each of its blocks has its bytes and its record, and a chip with banks has no others
     ghost whole: { Whole (made_of shape bytes.now records.now) },
 }
 

@@ -2,7 +2,7 @@ use Rattle.std.proofs.Common.{◌≡◌, ◌+◌, ◌*◌, refl, sym, ap, ◌∙
 use Rattle.flash.specs.Numbers.{answer}
 use Rattle.flash.proofs.Calls.{not_refused}
 use Rattle.chips.proofs.Blocks.{found_shows}
-use Rattle.chips.proofs.Calls.{laid_out_programmed}
+use Rattle.chips.proofs.Calls.{found_page, laid_out_programmed}
 use Rattle.chips.proofs.Checked.{err_refused}
 use Rattle.chips.proofs.Pages.{copied_page}
 use Rattle.chips.proofs.bare.BareChipFlash.program.Goals as goal
@@ -18,6 +18,12 @@ returns-in_err-check_program-clause-answer c =
 pub returns-in_err-check_program-clause-after : goal.returns-in_err-check_program-clause-after
 returns-in_err-check_program-clause-after c =
     err_refused c.from_residual-in_err-check_program.result _ _ _ (search rules) (returns-in_err-check_program-clause-answer c)
+
+pub slice_bounds-copy_from_slice-end : goal.slice_bounds-copy_from_slice-end
+slice_bounds-copy_from_slice-end c =
+    let found = rw c.in_ok-i.ensures.ok_part at c.number_of.ensures in
+    let passed = c.in_ok-check_program.ensures.passed in
+    found_page c.args.self.now.whole found c.args.page (omega arith)
 
 pub returns : goal.returns
 returns c =

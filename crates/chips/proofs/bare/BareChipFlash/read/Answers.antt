@@ -2,7 +2,7 @@ use Rattle.std.proofs.Common.{◌≡◌, ◌+◌, ◌-◌, ◌*◌, take, drop, 
 use Rattle.flash.specs.Numbers.{answer}
 use Rattle.flash.proofs.Calls.{not_refused}
 use Rattle.chips.proofs.Blocks.{found_shows}
-use Rattle.chips.proofs.Calls.{found_quarter}
+use Rattle.chips.proofs.Calls.{found_page, found_quarter}
 use Rattle.chips.proofs.Checked.{err_refused}
 use Rattle.chips.proofs.bare.BareChipFlash.read.Goals as goal
 
@@ -14,6 +14,12 @@ returns-in_err-check_read c =
     let shows = found_shows whole found c.from-standing.ensures in
     let told = ap answer same ∙ c.check_read.ensures.answer _ c.args.buffer.now shows refl in
     record { answer = told; buffer = err_refused c.from_residual-in_err-check_read.result _ _ _ (search rules) told }
+
+pub slice_bounds-copy_from_slice-end : goal.slice_bounds-copy_from_slice-end
+slice_bounds-copy_from_slice-end c =
+    let found = rw c.in_ok-i.ensures.ok_part at c.number_of.ensures in
+    let passed = c.in_ok-check_read.ensures.passed in
+    omega (arith, found_page c.args.self.now.whole found c.args.page (omega arith))
 
 pub returns : goal.returns
 returns c =
