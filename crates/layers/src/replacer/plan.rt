@@ -11,11 +11,12 @@ use flash::{BlockAddress, Flash, Shape};
 // What is asked of the parts of a plan, before there is one and in it. A bank and a block are two numbers here, since the blocks of a
 // bank are gone through by their numbers.
 
-// Whether the list has the block.
+// Whether the list has the block. This is asked for each block of each bank, so it compares the two numbers as they stand:
+// `contains`, which compares whole addresses, takes longer.
 fn is_bad(bad: &[BlockAddress], bank: usize, block: usize) -> bool
     ensures { result ≡ is_bad bad.now bank block }
 {
-    bad.contains(&BlockAddress { bank, block })
+    bad.iter().any(|at| at.bank == bank && at.block == block)
 }
 
 // How many blocks of a bank before `end` are bad.
