@@ -67,8 +67,11 @@ impl<F: Flash> Flash for Whitener<F> {
         Ok(())
     }
 
-    // What is no page is refused below, whatever its bytes are.
+    // What is outside every flash, or no page, is refused below, whatever its bytes are: it goes down as it is, at once.
     fn program(&mut self, at: BlockAddress, page: usize, bytes: &[u8]) -> Result<(), Refusal> {
+        if at.bank >= 16 || at.block >= 64 || page >= 64 {
+            return self.inner.program(at, page, bytes);
+        }
         let Ok(mut stored) = <[u8; PAGE]>::try_from(bytes) else {
             return self.inner.program(at, page, bytes);
         };
