@@ -27,9 +27,9 @@ bad_cut bad bank m n k is = simp (is, filter-append {X = ℕ}, length-append {A 
 bad_or_good : (bad : List BlockAddress) (bank a n : ℕ) → length (bad_of bad bank (range_with_len a n)) + length (good_of bad bank (range_with_len a n)) ≡ n
 bad_or_good bad bank a n = length-filter_both (λ k. is_bad bad bank k) (λ k. not (is_bad bad bank k)) (λ _. refl) (range_with_len a n) ∙ length-range_with_len a n
 
--- a bank has good spares enough just where it has no more bad blocks in all than spares
-pub bank_enough_is : (blocks spares : ℕ) (bad : List BlockAddress) (bank : ℕ) → leb (length (bad_of bad bank (range_with_len 0 blocks))) spares ≡ bank_enough blocks spares bad bank
-bank_enough_is blocks spares bad bank =
+-- a bank has good spares enough just where its bad blocks in all, n of them, are no more than the spares
+pub bank_enough_is : (n blocks spares : ℕ) (bad : List BlockAddress) (bank : ℕ) → n ≡ length (bad_of bad bank (range_with_len 0 blocks)) → leb n spares ≡ bank_enough blocks spares bad bank
+bank_enough_is n blocks spares bad bank is =
     let shown = blocks - spares in
     let cut = λ (h : spares ≤ blocks). bad_cut bad bank shown spares blocks (omega arith) in
     grind (arith, nat_tests, bad_or_good bad bank 0 blocks, bad_or_good bad bank 0 shown, bad_or_good bad bank shown spares)

@@ -37,7 +37,7 @@ impl<F: Flash> Whitener<F> {
     }
 }
 
-#[tactic(auto, using(crate::proofs::Whites::same_counts))]
+#[tactic(auto, using(crate::proofs::Whites::same_counts, crate::proofs::Whites::whitened_filled))]
 impl<F: Flash> Flash for Whitener<F> {
     ghost memory = { λ s. whitened (F.Flash.memory s.inner) };
 

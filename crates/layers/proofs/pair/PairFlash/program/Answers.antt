@@ -10,4 +10,4 @@ returns-in-Second-clause-after g c =
     let n = g.B.Flash.memory c.args.self.now.second in
     let bytes = c.args.bytes.now in
     let side = sym c.side.ensures ∙ (rw c.in-Second.is at c.in_ok-at.ensures.ok_part) in
-    done (in_second m n c.args.at c.in-Second.at side) (λ s. program_number s c.args.page bytes) (λ v. written v bytes) _ c.program-in-Second.ensures.after
+    done (in_second m n c.args.at _ side) (λ s. program_number s c.args.page bytes) (λ v. written v bytes) _ c.program-in-Second.ensures.after
