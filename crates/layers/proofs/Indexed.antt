@@ -1,12 +1,12 @@
 -- Lists made of the elements and their indices.
-use Rattle.std.proofs.Common.{◌≡◌, ℕ, zero, suc, ◌+◌, ◌<◌, List, [], ◌∷◌, ◌++◌, length, get_or, take, drop, set, refl, ap, arith}
+use Rattle.std.proofs.Common.{◌≡◌, ℕ, zero, suc, ◌+◌, ◌<◌, ◌≤◌, List, [], ◌∷◌, ◌++◌, length, get_or, take, drop, set, refl, ap, arith}
 use Rattle.std.proofs.lemmas.Grind.{common_steps}
 use Rattle.layers.specs.Whitened.{indexed}
 
--- two functions that agree, also where one is counted from another index
-pub indexed_same : {X Y : Type 0} (f g : ℕ → X → Y) (n m : ℕ) (xs : List X) → ((i j : ℕ) (x : X) → i + m ≡ j + n → f i x ≡ g j x) → indexed f n xs ≡ indexed g m xs
+-- two functions that agree from there on, also where one is counted from another index
+pub indexed_same : {X Y : Type 0} (f g : ℕ → X → Y) (n m : ℕ) (xs : List X) → ((i j : ℕ) (x : X) → n ≤ i → i + m ≡ j + n → f i x ≡ g j x) → indexed f n xs ≡ indexed g m xs
 indexed_same f g n m [] h = refl
-indexed_same f g n m (x ∷ xs) h = λ t. h n m x (omega arith) t ∷ indexed_same f g (suc n) (suc m) xs (λ i j y e. h i j y (omega arith)) t
+indexed_same f g n m (x ∷ xs) h = λ t. h n m x (omega arith) (omega arith) t ∷ indexed_same f g (suc n) (suc m) xs (λ i j y l e. h i j y (omega arith) (omega arith)) t
 
 pub indexed_take : {X Y : Type 0} (f : ℕ → X → Y) (n i : ℕ) (xs : List X) → take i (indexed f n xs) ≡ indexed f n (take i xs)
 indexed_take f n zero xs = refl

@@ -18,7 +18,7 @@ page_twice b k p xs = indexed_twice (whitened_byte b k p) 0 xs (λ n x. grind (a
 
 -- bytes of a page from the position j on, by the mask of the first of them
 run_is : (b k p j x : ℕ) (xs : List ℕ) → x ≡ mask b k p j → whitened_run x xs ≡ indexed (whitened_byte b k p) j xs
-run_is b k p j x xs is = indexed_same (λ n y. bit_xor y ((x + n) % 256)) (whitened_byte b k p) 0 j xs (λ n l y e. ap (bit_xor y) (omega (arith, is)))
+run_is b k p j x xs is = indexed_same (λ n y. bit_xor y ((x + n) % 256)) (whitened_byte b k p) 0 j xs (λ n l y _ e. ap (bit_xor y) (omega (arith, is)))
 
 whitened_quarter : (b k p q : ℕ) (page : List ℕ) → quarter_of (whitened_page b k p page) q ≡ indexed (whitened_byte b k p) (q * 512) (quarter_of page q)
 whitened_quarter b k p q page =
