@@ -1,7 +1,7 @@
 -- What a page that is written changes of the bytes, and what it leaves.
 use Rattle.std.proofs.Common.{◌≡◌, ℕ, ◌+◌, ◌-◌, ◌*◌, ◌/◌, ◌%◌, ◌<◌, ◌≤◌, ◌≢◌, List, [], ◌∷◌, ◌++◌, map, length, take, drop, sym, ap, ◌∙◌, ⊎_elim, arith}
 use Rattle.std.specs.List.{range_with_len}
-use Rattle.std.proofs.lemmas.List.{drop-take, take-take, drop-drop}
+use Rattle.std.proofs.lemmas.List.{length-append, length-drop, length-take, drop-take, take-take, drop-drop}
 use Rattle.std.proofs.lemmas.List.FromFn.{fill_by_all, length-map-range_with_len, get_or-map-range_with_len, map-range_with_len_more}
 use Rattle.std.proofs.lemmas.Slice.{between-put_mid, drop-put_mid, take-put_mid_below}
 use Rattle.std.proofs.lemmas.Nat.{div-mul-add, mod-mul-add}
@@ -15,6 +15,12 @@ abbrev pub put_page : List ℕ → ℕ → List ℕ → List ℕ
 put_page bytes j page = put_mid (j * 2048) 2048 bytes page
 
 module _ (bytes page : List ℕ) (j : ℕ) (fits : j * 2048 + 2048 ≤ length bytes) (long : length page ≡ 2048) where
+  pub put_page_long : length (put_page bytes j page) ≡ length bytes
+  put_page_long =
+      let a = j * 2048 in
+      let rest = drop 2048 (drop a bytes) in
+      omega (arith, length-append (take a bytes) (page ++ rest), length-append page rest, length-take a bytes, length-drop 2048 (drop a bytes), length-drop a bytes)
+
   page_at_same : page_at (put_page bytes j page) j ≡ page
   page_at_same =
       let a = j * 2048 in

@@ -1,5 +1,5 @@
 -- How the bytes and the records of a bare chip make a flash.
-use Rattle.std.specs.Prelude.{◌≡◌, ℕ, ◌+◌, ◌*◌, ◌<◌, ◌≤◌, Bool, true, cond, ◌&&◌, List, map, length, take, drop, ◌==◌, nat_le, slice_index_or}
+use Rattle.std.specs.Prelude.{◌≡◌, ℕ, ◌+◌, ◌*◌, ◌<◌, ◌≤◌, Bool, true, cond, ◌&&◌, List, map, length, take, drop, ◌==◌, nat_le, nat_lt, slice_index_or}
 use Rattle.std.specs.List.{list_all, range_with_len}
 use Rattle.flash.specs.Memory.{Memory, Block, no_banks}
 use Rattle.flash.specs.declared.Shape.{Shape}
@@ -63,6 +63,14 @@ sizes_fit c = shape_fits c.shape && (records_fit c && bytes_fit c)
 -- no record counts more standing pages than a block has
 abbrev pub counts_fit : ℕ → List BlockRecord → Bool
 counts_fit depth records = list_all (λ r. nat_le r.standing depth) records
+
+-- no record counts more lives than a `u16` holds
+abbrev pub lives_fit : List BlockRecord → Bool
+lives_fit records = list_all (λ r. nat_lt r.lives 65536) records
+
+-- the parts make a flash with banks
+abbrev pub all_fit : Parts → Bool
+all_fit c = sizes_fit c && (counts_fit c.shape.pages c.records && lives_fit c.records)
 
 -- the flash that a new chip shows: that of its parts if all fits, and otherwise no banks
 abbrev pub new_memory : Parts → Memory

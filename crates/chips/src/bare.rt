@@ -3,22 +3,34 @@
 // has that form: the bytes of all pages, and a record for each block.
 ghost use Rattle.std.specs.Prelude.{◌≡◌, ◌<◌, true, false, All, MatchOption, OnErr};
 ghost use Rattle.flash.specs.Calls.{erase_number, erased, program_number, programmed, spot};
-ghost use Rattle.flash.specs.Memory.{in_shape};
+ghost use Rattle.flash.specs.Memory.{inside, shape_of};
 ghost use Rattle.flash.specs.Numbers.{answer};
-ghost use Rattle.chips.specs.Layout.{Found, Whole, counts_fit, made_of, new_memory, sizes_fit};
+ghost use Rattle.chips.specs.Layout.{Found, Whole, counts_fit, laid_out, made_of, new_memory, sizes_fit};
 
 use crate::checks::{check_erase, check_program, check_read};
 use crate::record::BlockRecord;
 use crate::shapes::shape_fits;
 use flash::{BlockAddress, Flash, NO_BANKS, PAGE, QUARTER, Refusal, Shape};
+use std::marker::Model;
 
 #[derive(Drop)]
 pub struct BareChip<'a> {
     shape: Shape,
     bytes: &'a mut [u8],
     records: &'a mut [BlockRecord],
+}
+
+// A clause sees what the chip is made of. A model, and no ghost field: a chip with a ghost field beside what it borrows could not be
+// taken by value and handed on.
+impl<'a> Model for BareChip<'a> {
+    ghost use Rattle.chips.specs.Layout.{Parts, Whole, made_of};
+
+    ghost Value = { Parts };
+
+    ghost view = { λ c. made_of c.shape c.bytes.now c.records.now };
+
     // the shape is that of a flash, each of its blocks has its bytes and its record, and a chip with banks has no others
-    ghost whole: { Whole (made_of shape bytes.now records.now) },
+    ghost invariant = { λ c. Whole (made_of c.shape c.bytes.now c.records.now) };
 }
 
 // Whether a flash can have the shape, and there are just as many bytes and records as it needs. The blocks are counted here by their
@@ -64,9 +76,9 @@ impl<'a> BareChip<'a> {
     }
 
     // The number of a block, counted from 0 over the whole chip, or none where the chip does not show the block.
-    #[tactic(auto, using(crate::proofs::Blocks::found_at))]
     fn number_of(&self, at: BlockAddress) -> Option<usize>
-        ensures { MatchOption result (in_shape self.now.shape at.bank at.block ≡ false) (Found self.now.shape at.bank at.block) }
+        ensures number { MatchOption result (inside (memory_of self.now) at.bank at.block ≡ false) (Found self.now.shape at.bank at.block) }
+        ensures whole { Whole self.now }
     {
         // read before the closure: of one that goes through `self`, which holds a `&mut`, a proof learns nothing
         let blocks = self.shape.blocks;
@@ -81,7 +93,12 @@ impl<'a> Flash for BareChip<'a> {
 
     ghost bounds = { bounds_of };
 
-    fn shape(&self) -> Shape {
+    // Also tells what holds of the parts of every chip, and that it shows their flash: of a model a caller sees the value alone.
+    fn shape(&self) -> Shape
+        ensures shape { result ≡ shape_of (memory_of self.now) }
+        ensures whole { Whole (parts_of self.now) }
+        ensures shown { memory_of self.now ≡ laid_out (parts_of self.now) }
+    {
         self.shape
     }
 
