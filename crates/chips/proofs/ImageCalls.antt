@@ -20,6 +20,10 @@ use Rattle.chips.proofs.ImageRecords.{block_blank, block_written, fits_blank, fi
 use Rattle.chips.proofs.Numbered.{numbered_spot}
 use Rattle.chips.proofs.Stretches.{put_mid_put}
 
+-- the shape that an image keeps is the one that its bytes name
+pub kept_shape : {s : Shape} {inside bytes : List ℕ} → s ≡ named_shape inside → inside ≡ bytes → s ≡ named_shape bytes
+kept_shape named holds = named ∙ ap named_shape holds
+
 -- what the answer to a question tells of the block
 pub standing_some : (v : Spot) (n : ℕ) → standing_at v ≡ Some n → Shows v v.depth n
 standing_some v n e =
@@ -33,7 +37,7 @@ lives_some v n e = cond_both v.here (Some v.block.lives) None (λ o. o ≡ Some 
 pub record Makes (s : Shape) (now these : List ℕ) (m : Memory) : Type 0 where
   pub named : s ≡ named_shape now
   pub bytes : now ≡ these
-  pub shown : stored s now ≡ m
+  pub shown : stored (named_shape now) now ≡ m
 
 module _ {s : Shape} {bytes : List ℕ} {b k : ℕ} (shown : Shown s bytes b k) where
   abbrev number : ℕ
@@ -63,8 +67,8 @@ module _ {s : Shape} {bytes : List ℕ} {b k : ℕ} (shown : Shown s bytes b k) 
     counted : n ≡ standing_in held s.pages
     counted = count ∙ ap (λ x. standing_in x s.pages) same
 
-    pub shown_shows : Shows (spot (stored s bytes) b k) s.pages n
-    shown_shows = record { here = ap (λ v. v.here) shown_spot; depth = ap (λ v. v.depth) shown_spot; stands = shown_count ∙ sym counted }
+    pub shown_shows : (depth : ℕ) → depth ≡ s.pages → Shows (spot (stored s bytes) b k) depth n
+    shown_shows depth e = record { here = ap (λ v. v.here) shown_spot; depth = ap (λ v. v.depth) shown_spot ∙ sym e; stands = shown_count ∙ sym counted }
 
     pub shown_standing : standing_at (spot (stored s bytes) b k) ≡ Some n
     shown_standing = ap standing_at shown_spot ∙ ap Some (length-map-range_with_len (page_in held) 0 (standing_in held s.pages) ∙ sym counted)
@@ -79,33 +83,35 @@ module _ {s : Shape} {bytes : List ℕ} {b k : ℕ} (shown : Shown s bytes b k) 
   module _ (named : s ≡ named_shape bytes) (r : List ℕ) (long : length r ≡ block_size s) (fits : block_fits held s.pages ≡ true → block_fits r s.pages ≡ true) where
     makes : (n : ℕ) → n ≡ 0 → (v : Block) → block_in r s.pages ≡ v → (now : List ℕ) → now ≡ with_record s bytes number r
         → Makes s now (unless_refused n (with_record s bytes number r) bytes) (changed (stored s bytes) b k n v)
-    makes n done v is now e = record {
-      named = named_now s bytes r number shown.sizes there long (named_by_banks s bytes named (omega (arith, shown.bank))) fits ∙ sym (ap named_shape e);
-      bytes = e ∙ sym (not_refused _ _ _ done);
-      shown = ap (stored s) e
-          ∙ (stored_now s bytes r number shown.sizes there long b k shown.bank shown.block refl ∙ (ap (with_block (stored s bytes) b k) is ∙ sym (not_refused _ _ _ done)));
-    }
+    makes n done v is now e =
+        let still = named_now s bytes r number shown.sizes there long (named_by_banks s bytes named (omega (arith, shown.bank))) fits ∙ sym (ap named_shape e) in
+        record {
+          named = still;
+          bytes = e ∙ sym (not_refused _ _ _ done);
+          shown = (λ t. stored (sym still t) (e t))
+              ∙ (stored_now s bytes r number shown.sizes there long b k shown.bank shown.block refl ∙ (ap (with_block (stored s bytes) b k) is ∙ sym (not_refused _ _ _ done)));
+        }
 
--- the calls that write, where the record lies at this place
-module _ {s : Shape} {bytes : List ℕ} {b k : ℕ} {place : Range ℕ} (found : FoundAt s bytes b k place) (named : s ≡ named_shape bytes) where
+-- the calls that write, where the record lies at this place, in the bytes that the image holds
+module _ {s : Shape} {bytes : List ℕ} {b k : ℕ} {place : Range ℕ} (found : FoundAt s bytes b k place) (named : s ≡ named_shape bytes) {inside : List ℕ} (holds : inside ≡ bytes) where
   abbrev old : List ℕ
-  old = take (place.end - place.start) (drop place.start bytes)
+  old = take (place.end - place.start) (drop place.start inside)
 
   abbrev after : List ℕ → List ℕ
-  after new = put_mid place.start (place.end - place.start) bytes new
+  after new = put_mid place.start (place.end - place.start) inside new
 
   size_found : place.end - place.start ≡ block_size s
   size_found = omega (arith, found.end)
 
   old_held : old ≡ held found.shown
-  old_held = λ t. take (size_found t) (drop (found.start t) bytes)
+  old_held = λ t. take (size_found t) (drop (found.start t) (holds t))
 
   long_old : length old ≡ 4 + 2050 * s.pages
   long_old = ap length old_held ∙ long_held found.shown
 
   after_is : (new r : List ℕ) → new ≡ r → length r ≡ block_size s → after new ≡ with_record s bytes (b * s.blocks + k) r
   after_is new r e long =
-      put_mid_put place.start (place.end - place.start) bytes new (size_found ∙ (sym long ∙ ap length (sym e))) ∙ (λ t. put (found.start t) (e t) bytes)
+      put_mid_put place.start (place.end - place.start) inside new (size_found ∙ (sym long ∙ ap length (sym e))) ∙ (λ t. put (found.start t) (e t) (holds t))
 
   pub program_makes : (p n : ℕ) (page new : List ℕ) → standing_at (spot (stored s bytes) b k) ≡ Some n → (p < s.pages) × ((p ≡ n) × (length page ≡ 2048)) → new ≡ with_page old p page
       → Makes s (after new) (programmed_bytes s bytes b k p page) (programmed (stored s bytes) b k p page)

@@ -1,5 +1,5 @@
 -- That a card image keeps within the bounds of a flash: the trait asks for it as a member, so its proof stands here and not in proofs/.
-use Rattle.std.specs.Prelude.{◌≡◌, ℕ, zero, suc, ◌+◌, ◌*◌, ◌<◌, ◌≤◌, true, false, ◌&&◌, List, [], length, ◌==◌, nat_lt}
+use Rattle.std.specs.Prelude.{◌≡◌, ℕ, zero, suc, ◌+◌, ◌*◌, ◌<◌, ◌≤◌, true, false, ◌&&◌, List, [], length, ◌==◌, nat_lt, refl}
 use Rattle.std.proofs.Common.{◌∙◌, ⊎_elim, ap, arith, subst, sym}
 use Rattle.std.proofs.lemmas.List.{length-drop, length-take}
 use Rattle.std.proofs.lemmas.List.FromFn.{get_or-map-range_with_len, length-map-range_with_len}
@@ -9,7 +9,7 @@ use Rattle.std.proofs.lemmas.Bool.Decides.{nat_tests}
 use Rattle.flash.specs.Memory.{Bounds, SoundBlock, no_banks, no_banks_bounds, no_block}
 use Rattle.flash.specs.declared.Shape.{Shape}
 use Rattle.chips.specs.ImageLayout.{block_in, block_size, block_start, header_mark, image_length, image_sizes_fit, is_image, named_shape, page_in, page_start, block_record, shape_in, standing_in, stands, stored}
-use Rattle.chips.specs.ImageMemory.{bytes_of, memory_of_image}
+use Rattle.chips.specs.ImageMemory.{bytes_of, memory_of_image, shape_of_image}
 use Rattle.chips.specs.Numbered.{numbered_bounds}
 use Rattle.chips.specs.Layout.{block_count, shape_fits}
 use Rattle.chips.specs.Shapes.{Ranges, no_shape, ranges_of}
@@ -94,4 +94,4 @@ stored_bounds s bytes named =
     (cases_Bool (is_image bytes))
 
 pub image_bounds : (image : CardImage) → Bounds (memory_of_image image)
-image_bounds image = stored_bounds image.shape (bytes_of image) image.named
+image_bounds image = stored_bounds (shape_of_image image) (bytes_of image) refl

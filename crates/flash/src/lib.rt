@@ -80,7 +80,7 @@ pub const QUARTER: usize = 512;
 // says these clauses again, since its own take their place.
 // A page is 2,048 bytes, four quarters of 512. A page stands from its program until the erase of its block.
 pub trait Flash {
-    // what the value means. An implementing type may have a model besides: it says what the value is made of, and this is what that means
+    // what the value means; where an implementing type has a model, what a value of that model means
     ghost memory: { Self → Memory };
 
     // every value is within the bounds of a flash

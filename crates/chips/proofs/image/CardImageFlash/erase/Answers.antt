@@ -3,7 +3,7 @@ use Rattle.flash.specs.Calls.{spot}
 use Rattle.flash.specs.Numbers.{answer}
 use Rattle.chips.specs.ImageMemory.{memory_of_image}
 use Rattle.chips.proofs.Checked.{err_refused}
-use Rattle.chips.proofs.ImageCalls.{erase_makes}
+use Rattle.chips.proofs.ImageCalls.{erase_makes, kept_shape}
 use Rattle.chips.proofs.image.CardImageFlash.erase.Goals as goal
 
 pub returns-in_err-left : goal.returns-in_err-left
@@ -17,11 +17,12 @@ returns-in_err-left c =
 pub invariant_of-self : goal.invariant_of-self
 invariant_of-self c =
     let some = sym c.lives.ensures ∙ c.in_ok-lives.ensures.ok_part in
-    record { named = (erase_makes c.place_of-place.ensures c.args.self.now.named _ _ _ some c.in_ok-left.ensures.passed c.write_blank.ensures).named }
+    kept_shape c.self.invariant c.self.view_is
+    ∙ (erase_makes c.place_of-place.ensures refl c.self.view_is _ _ _ some c.in_ok-left.ensures.passed c.write_blank.ensures).named
 
 pub returns : goal.returns
 returns c =
     let seen = spot (memory_of_image c.args.self.now) c.args.at.bank c.args.at.block in
     let some = sym c.lives.ensures ∙ c.in_ok-lives.ensures.ok_part in
-    let made = erase_makes c.place_of-place.ensures c.args.self.now.named _ _ _ some c.in_ok-left.ensures.passed c.write_blank.ensures in
-    record { answer = c.in_ok-left.ensures.answer seen some; after = made.shown; shape = refl; bytes = made.bytes }
+    let made = erase_makes c.place_of-place.ensures refl c.self.view_is _ _ _ some c.in_ok-left.ensures.passed c.write_blank.ensures in
+    record { answer = c.in_ok-left.ensures.answer seen some; after = made.shown; shape = sym made.named; bytes = made.bytes }
